@@ -1,0 +1,4 @@
+pub mod Roles
+pub mod Refusals
+pub mod Numbers
+pub mod Outcomes
