@@ -2,3 +2,5 @@ pub mod Roles
 pub mod Refusals
 pub mod Numbers
 pub mod Outcomes
+pub mod Remainder
+pub mod Registers
