@@ -1,3 +1,5 @@
+pub mod Numbers
+pub mod Laying
 pub mod Channels
 pub mod Register
 pub mod Long

@@ -4,3 +4,5 @@ pub mod Numbers
 pub mod Outcomes
 pub mod Remainder
 pub mod Registers
+pub mod FrameTypes
+pub mod Buffers

@@ -1,5 +1,7 @@
 // The wire formats: safety code, frames, telegrams, packets.
+mod bytes;
 pub mod counters;
 pub mod crc;
+pub mod frame_type;
 pub mod refusal;
 pub mod role;
