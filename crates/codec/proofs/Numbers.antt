@@ -2,7 +2,7 @@
 use mathlib.Core.Path.{_≡_, refl, sym, ap, ap₂, subst, _∙_}
 use mathlib.Core.List.{List, [], _∷_}
 use Prim.Native.Nat.{ℕ, zero, suc, _+_, _-_, _*_, _/_, _%_, _^_, _<_, _≤_}
-use native.Mathlib.Nat.{add-mul, mul-assoc, mul-comm, pow-suc, mod-eq-of-lt, mod-one, mul-one, add-assoc, zero-add, add-zero}
+use native.Mathlib.Nat.{add-mul, mul-assoc, mul-comm, pow-suc, div-one, mod-eq-of-lt, mod-one, mul-one, add-assoc, zero-add, add-zero}
 use native.Mathlib.Omega.{arith}
 use lib.Arith.{mod-mul, digits-lt}
 use lib.ListN.{length, getD, take, drop}
@@ -90,3 +90,9 @@ spell-take (suc n) k s h =
 -- a string of n elements, spelled out
 pub spelled : (n : ℕ) (s : List ℕ) → length s ≡ n → spell n 0 s ≡ s
 spelled n s e = spell-take n 0 s (omega arith) ∙ take-all n s (omega arith)
+
+-- what `to_be_bytes` gives at 64 bits
+pub big-endian : (v : ℕ)
+    → (v / 72057594037927936 % 256) ∷ (v / 281474976710656 % 256) ∷ (v / 1099511627776 % 256) ∷ (v / 4294967296 % 256) ∷ (v / 16777216 % 256) ∷ (v / 65536 % 256) ∷ (v / 256 % 256) ∷ (v % 256) ∷ []
+    ≡ bytes 8 v
+big-endian v = simp div-one

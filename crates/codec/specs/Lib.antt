@@ -6,3 +6,5 @@ pub mod Remainder
 pub mod Registers
 pub mod FrameTypes
 pub mod Buffers
+pub mod Frames
+pub mod FrameLaws

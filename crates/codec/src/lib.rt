@@ -2,6 +2,7 @@
 mod bytes;
 pub mod counters;
 pub mod crc;
+pub mod frame;
 pub mod frame_type;
 pub mod refusal;
 pub mod role;
