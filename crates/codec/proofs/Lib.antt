@@ -2,6 +2,7 @@ pub mod Numbers
 pub mod Laying
 pub mod Framing
 pub mod Judging
+pub mod TelegramTrips
 pub mod Channels
 pub mod Register
 pub mod Long

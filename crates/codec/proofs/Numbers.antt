@@ -81,7 +81,8 @@ unfoldable pub spell : ℕ → ℕ → List ℕ → List ℕ
 spell zero k s = []
 spell (suc n) k s = getD s k 0 ∷ spell n (suc k) s
 
-spell-take : (n k : ℕ) (s : List ℕ) → k + n ≤ length s → spell n k s ≡ take n (drop k s)
+-- the same as a part of s
+pub spell-take : (n k : ℕ) (s : List ℕ) → k + n ≤ length s → spell n k s ≡ take n (drop k s)
 unfolding spell
 spell-take zero k s h = refl
 spell-take (suc n) k s h =

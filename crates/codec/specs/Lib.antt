@@ -8,3 +8,6 @@ pub mod FrameTypes
 pub mod Buffers
 pub mod Frames
 pub mod FrameLaws
+pub mod Words
+pub mod Telegrams
+pub mod TelegramLaws

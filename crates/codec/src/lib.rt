@@ -4,5 +4,8 @@ pub mod counters;
 pub mod crc;
 pub mod frame;
 pub mod frame_type;
+pub mod identifier;
 pub mod refusal;
 pub mod role;
+pub mod safety;
+pub mod telegram;

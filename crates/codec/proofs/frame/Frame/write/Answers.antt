@@ -1,11 +1,11 @@
-use mathlib.Core.Path.{_≡_, ap, ap₂, sym, _∙_}
+use mathlib.Core.Path.{_≡_, ap, sym, _∙_}
 use mathlib.Core.Bool.{true}
 use native.Mathlib.Omega.{arith}
 use lib.Dec.{leb}
-use lib.ListN.{length, drop, take}
-use lib.Seq.{take-at}
-use Rattle.std.proofs.shelf.Tests.{cond-true, le-leb}
+use lib.ListN.{length}
+use Rattle.std.proofs.shelf.Tests.{le-leb}
 use Rattle.codec.specs.Frames.{frame-value, bytes-of, sized, read-frame}
+use Rattle.codec.proofs.Laying.{laid-front}
 use Rattle.codec.proofs.Judging.{read-back}
 use Rattle.codec.proofs.frame.Frame.write.Needs as need
 
@@ -18,7 +18,7 @@ returns c =
     let room : leb (length s) (length out) ≡ true = le-leb (length s) (length out) (omega arith) in
     let suits : sized f ≡ true = sym (c .if-not-suits .ensures tt) in
     let after = c .fill .ensures .after in
-    let front : take (c .size-n .result) (c .fill .last .out) ≡ s = ap (take (c .size-n .result)) after ∙ take-at s (drop (length s) out) (c .size-n .result) (sym n) in
+    let front = laid-front s out (c .fill .last .out) (c .size-n .result) n after in
     record {
       answer = simp (n, room, suits);
       after = simp (after, room, suits);
