@@ -10,7 +10,7 @@ use lib.ListN.{length, getD, take, drop, length-append, take-append-drop, length
 use lib.Seq.{take-at, drop-at, drop-drop}
 use Rattle.std.specs.shelf.Text.{sameBytes}
 use Rattle.std.proofs.shelf.Equals.{sameBytes-decides}
-use Rattle.std.proofs.shelf.Tests.{cond-true, cond-false, ne-eqb, and-from, and-parts, le-leb, leb-true, cases-eq, eqb-true}
+use Rattle.std.proofs.shelf.Tests.{cond-true, cond-false, cond-both, ne-eqb, and-from, and-parts, le-leb, leb-true, cases-eq, eqb-true}
 use Rattle.std.specs.declared.option.Option.{Option}
 use Rattle.std.specs.declared.option.Option.the-variants.{Some, None}
 use Rattle.std.specs.declared.result.Result.{Result}
@@ -26,11 +26,6 @@ use Rattle.codec.specs.FrameTypes.{Goes, first-byte, suits-length}
 use Rattle.codec.specs.Frames.{FrameValue, bare-di, au1, au2, au3, ar, di, dt, most-data, fixed-bytes, ignored-text, sized, bytes-of, head-of, read-frame, read-as, read-body, read-dt, read-di}
 use Rattle.codec.specs.FrameLaws.{Writing, UnknownType, WrongLength, WrongFixed, NoFrame, Judged, settled, Written-again, Fits-fields}
 use Rattle.codec.proofs.Numbers.{number-back, bytes-back, number-lt, Bytes-drop, spell, spelled}
-
--- by cases of a test, which each case may use
-pub by-test : {A : Type 0} (P : A → Type 0) (b : Bool) (x y : A) → (b ≡ true → P x) → (b ≡ false → P y) → P (cond b x y)
-by-test P true x y f g = f refl
-by-test P false x y f g = g refl
 
 -- the first byte of a frame names it
 head-first : (t : FrameType) (towards : Role) → Goes t towards → head-of (first-byte t towards) ≡ Some (t, towards)
@@ -141,7 +136,7 @@ fits-64 s h e = let low = subst (λ n. number 0 s < 256 ^ n) e (number-lt s h) i
 sound-au1 : (body : List ℕ) → Bytes body → suc (length body) ≡ 13 → Sound (2 ∷ body) (read-body type.Au1 Responder body)
 unfolding Sound
 sound-au1 body h n =
-    by-test (Sound (2 ∷ body)) (sameBytes (take 4 body) fixed-bytes) _ _
+    cond-both (sameBytes (take 4 body) fixed-bytes) _ _ (Sound (2 ∷ body))
     (λ same.
     let rest = drop 4 body in
     let long : length rest ≡ 8 = length-drop 4 body ∙ (omega arith) in
@@ -152,7 +147,7 @@ sound-au1 body h n =
 sound-au2 : (body : List ℕ) → Bytes body → suc (length body) ≡ 21 → Sound (5 ∷ body) (read-body type.Au2 Initiator body)
 unfolding Sound
 sound-au2 body h n =
-    by-test (Sound (5 ∷ body)) (sameBytes (take 4 body) fixed-bytes) _ _
+    cond-both (sameBytes (take 4 body) fixed-bytes) _ _ (Sound (5 ∷ body))
     (λ same.
     let rest = drop 12 body in
     let long : length rest ≡ 8 = length-drop 12 body ∙ (omega arith) in
@@ -204,7 +199,7 @@ sound (b ∷ body) h =
     let towards = k .1 in
     let is : b ∷ body ≡ first-byte t towards ∷ body = ap (λ x. x ∷ body) (k .3) in
     subst (Sound (b ∷ body)) (sym (known-reads t towards body (b ∷ body) (k .2) is))
-    (by-test (Sound (b ∷ body)) (suits-length t (length (b ∷ body)) most-data) _ _
+    (cond-both (suits-length t (length (b ∷ body)) most-data) _ _ (Sound (b ∷ body))
     (λ suits. subst (λ s. Sound s (read-body t towards body)) (sym is) (sound-body t towards body (h .1) (k .2) suits))
     (λ wrong. inr (inl (refl, (t, towards, body, k .2, is, wrong))))))
     (λ e.

@@ -3,6 +3,7 @@ pub mod Laying
 pub mod Framing
 pub mod Judging
 pub mod TelegramTrips
+pub mod Sealings
 pub mod Channels
 pub mod Register
 pub mod Long

@@ -8,7 +8,7 @@ use native.Mathlib.Omega.{arith}
 use lib.Dec.{eqb, leb}
 use lib.ListN.{length, getD, take, drop, length-append, take-append-drop, length-drop, length-take}
 use lib.Seq.{drop-drop}
-use Rattle.std.proofs.shelf.Tests.{cond-true, cond-false, eq-eqb, ne-eqb, eqb-true, and-from, and-parts, le-leb, leb-true, cases-eq}
+use Rattle.std.proofs.shelf.Tests.{cond-true, cond-false, cond-both, eq-eqb, ne-eqb, eqb-true, and-from, and-parts, le-leb, leb-true, cases-eq}
 use Rattle.std.specs.declared.result.Result.{Result}
 use Rattle.std.specs.declared.result.Result.the-variants.{Ok, Err}
 use Rattle.codec.specs.declared.refusal.Refusal.{Refusal}
@@ -17,7 +17,6 @@ use Rattle.codec.specs.Numbers.{number, bytes, Bytes}
 use Rattle.codec.specs.Telegrams.{ContentValue, ec-start, am, am-req, am-ack, other, TelegramValue, content-type, content-bytes, header, telegram-bytes, telegram-length, read-start, read-content, read-telegram}
 use Rattle.codec.specs.TelegramLaws.{Proper, TelegramWriting, TelegramJudged}
 use Rattle.codec.proofs.Numbers.{number-back, bytes-back, number-lt, Bytes-drop, Bytes-take, spelled, spell}
-use Rattle.codec.proofs.Judging.{by-test}
 
 -- what is none of the four, past the tests for them
 other-back : (type-byte : ℕ) (body : List ℕ) → Proper (other type-byte body) → read-content type-byte body ≡ other type-byte body
@@ -38,6 +37,7 @@ content-back (other type-byte body) h = other-back type-byte body h
 
 -- what is written is read
 pub writing-reads : (t : TelegramValue) (s : List ℕ) → TelegramWriting t s → read-telegram s ≡ Ok t
+unfolding telegram-bytes
 writing-reads t s w =
     let body = content-bytes (t .content) in
     let n : ℕ = 9 + length body in
@@ -71,16 +71,16 @@ record Stands (type-byte : ℕ) (body : List ℕ) (c : ContentValue) : Type 0 wh
 
 stands : (type-byte : ℕ) (body : List ℕ) → Bytes body → Stands type-byte body (read-content type-byte body)
 stands type-byte body h =
-    by-test (Stands type-byte body) (eqb type-byte 0x81) _ _
+    cond-both (eqb type-byte 0x81) _ _ (Stands type-byte body)
     (λ is81. let e : type-byte ≡ 0x81 = eqb-true _ _ is81 in
-    by-test (Stands type-byte body) (eqb (length body) 3) _ _
+    cond-both (eqb (length body) 3) _ _ (Stands type-byte body)
     (λ is3. let n = eqb-true (length body) 3 is3 in record { type-is = sym e; body-is = three body h n; proper = period-fits body h n })
     (λ not3. record { type-is = sym e; body-is = refl; proper = ((λ a b. not-both (eq-eqb _ _ b) not3), (λ a. omega arith), (λ a. omega arith), (λ a. omega arith)) }))
-    (λ not81. by-test (Stands type-byte body) (eqb type-byte 0x86) _ _
+    (λ not81. cond-both (eqb type-byte 0x86) _ _ (Stands type-byte body)
     (λ is. record { type-is = sym (eqb-true _ _ is); body-is = refl; proper = tt })
-    (λ not86. by-test (Stands type-byte body) (eqb type-byte 0x87) _ _
+    (λ not86. cond-both (eqb type-byte 0x87) _ _ (Stands type-byte body)
     (λ is. record { type-is = sym (eqb-true _ _ is); body-is = refl; proper = tt })
-    (λ not87. by-test (Stands type-byte body) (eqb type-byte 0x88) _ _
+    (λ not87. cond-both (eqb type-byte 0x88) _ _ (Stands type-byte body)
     (λ is. record { type-is = sym (eqb-true _ _ is); body-is = refl; proper = tt })
     (λ not88. record { type-is = refl; body-is = refl; proper = ((λ a b. not-both (eq-eqb _ _ a) not81), (λ a. not-both (eq-eqb _ _ a) not86), (λ a. not-both (eq-eqb _ _ a) not87), (λ a. not-both (eq-eqb _ _ a) not88)) }))))
   where
@@ -109,9 +109,9 @@ Sound s (Ok t) = TelegramWriting t s
 Sound s (Err e) = (e ≡ refusal.FrameLength) × (telegram-length (length s) ≡ false)
 
 sound : (s : List ℕ) → Bytes s → Sound s (read-telegram s)
-unfolding Sound
+unfolding Sound telegram-bytes
 sound s h =
-    by-test (Sound s) (telegram-length (length s)) _ _
+    cond-both (telegram-length (length s)) _ _ (Sound s)
     (λ suits.
     let both = and-parts (leb 9 (length s)) (leb (length s) 1032) suits in
     let low = leb-true 9 (length s) (both .0) in
@@ -141,3 +141,7 @@ only s (Err x) e w = (w .0, (λ o v. ok-not-err (sym (writing-reads o s v) ∙ e
 
 pub judged : (s : List ℕ) → Bytes s → TelegramJudged s (read-telegram s)
 judged s h = only s (read-telegram s) refl (sound s h)
+
+pub length-telegram : (t : TelegramValue) → length (telegram-bytes t) ≡ 9 + length (content-bytes (t .content))
+unfolding telegram-bytes
+length-telegram t = length-append (header t) (content-bytes (t .content))

@@ -11,3 +11,4 @@ pub mod FrameLaws
 pub mod Words
 pub mod Telegrams
 pub mod TelegramLaws
+pub mod Sealing

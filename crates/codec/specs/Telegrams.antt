@@ -13,7 +13,7 @@ use Rattle.codec.specs.declared.telegram.Content.{Content}
 use Rattle.codec.specs.declared.telegram.Content.the-variants.{EcStart, Am, AmReq, AmAck, Other}
 use Rattle.codec.specs.declared.telegram.Telegram.{Telegram}
 use Rattle.codec.specs.Numbers.{number, bytes}
-use Rattle.codec.specs.Buffers.{put-after}
+use Rattle.codec.specs.Buffers.{overlay}
 
 -- what a telegram says, wherever its bytes lie
 pub data ContentValue : Type 0 where
@@ -63,7 +63,7 @@ abbrev pub header : TelegramValue → List ℕ
 header t = content-type (t .content) ∷ (bytes 4 (t .sn) ++ bytes 4 (t .ec))
 
 -- a telegram as it is written
-abbrev pub telegram-bytes : TelegramValue → List ℕ
+unfoldable pub telegram-bytes : TelegramValue → List ℕ
 telegram-bytes t = header t ++ content-bytes (t .content)
 
 -- the lengths that a data frame leaves for its telegram
@@ -94,4 +94,4 @@ telegram-answer t s out =
     cond (leb (length s) (length out)) (cond (leb (length (content-bytes (t .content))) 1023) (Ok (length s)) (Err refusal.MessageTooLong)) (Err refusal.BufferTooShort)
 
 abbrev pub telegram-after : TelegramValue → List ℕ → List ℕ → List ℕ
-telegram-after t s out = cond (leb (length (content-bytes (t .content))) 1023) (put-after s out) out
+telegram-after t s out = cond (leb (length s) (length out)) (cond (leb (length (content-bytes (t .content))) 1023) (overlay s out) out) out

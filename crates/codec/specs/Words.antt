@@ -7,7 +7,7 @@ use Rattle.codec.specs.declared.identifier.Identifier.{Identifier}
 use Rattle.codec.specs.Remainder.{polynomial, remainder}
 
 -- both checks of a string, the first the higher
-abbrev pub checks : List ℕ → ℕ
+unfoldable pub checks : List ℕ → ℕ
 checks s = remainder (polynomial First) s * 2 ^ 32 + remainder (polynomial Second) s
 
 -- the code of a string under a word

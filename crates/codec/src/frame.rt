@@ -80,7 +80,9 @@ fn au2_from(body: &[u8]) -> Result<Frame<'_>, Refusal>
     ensures parts { λ r. ⌜ made r Parts ⌝ }
 {
     match body {
-        [0, 0, 0, 2, _, _, _, _, _, _, _, _, mix @ ..] => Ok(Frame::Au2 { ra_xor_rb: u64_from(mix) }),
+        [0, 0, 0, 2, _, _, _, _, _, _, _, _, mix @ ..] => Ok(Frame::Au2 {
+            ra_xor_rb: u64_from(mix),
+        }),
         _ => Err(Refusal::FrameFixed),
     }
 }
@@ -133,7 +135,9 @@ fn parse(s: &[u8]) -> Result<Frame<'_>, Refusal>
     match kind {
         FrameType::Au1 => au1_from(body),
         FrameType::Au2 => au2_from(body),
-        FrameType::Au3 => Ok(Frame::Au3 { ra_xor_rc: u64_from(body) }),
+        FrameType::Au3 => Ok(Frame::Au3 {
+            ra_xor_rc: u64_from(body),
+        }),
         FrameType::Dt => dt_from(towards, body),
         FrameType::Di => di_from(towards, body),
         FrameType::Ar => Ok(Frame::Ar { rb: u64_from(body) }),
@@ -171,7 +175,9 @@ impl<'a> Frame<'a> {
         ensures { λ r. ⌜ r ≡ sized (frame-value (self .entry)) ⌝ }
     {
         match self {
-            Frame::Dt { telegram, code, .. } => 9 <= telegram.len() && telegram.len() <= 1032 && code.len() == 8,
+            Frame::Dt { telegram, code, .. } => 9 <= telegram.len()
+                && telegram.len() <= 1032
+                && code.len() == 8,
             _ => true,
         }
     }
@@ -193,7 +199,12 @@ impl<'a> Frame<'a> {
             ),
             Frame::Au3 { ra_xor_rc } => lay(out, &[0x06], &ra_xor_rc.to_be_bytes(), &[]),
             Frame::Ar { rb } => lay(out, &[0x13], &rb.to_be_bytes(), &[]),
-            Frame::Di { towards, codes } => lay(out, &[0x10 + towards.flag()], &[codes.reason, codes.sub_reason], &[]),
+            Frame::Di { towards, codes } => lay(
+                out,
+                &[0x10 + towards.flag()],
+                &[codes.reason, codes.sub_reason],
+                &[],
+            ),
             Frame::Dt {
                 towards,
                 telegram,

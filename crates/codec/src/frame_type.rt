@@ -35,12 +35,48 @@ pub struct FrameRule {
 
 // By type, in the order of `FrameType`.
 const RULES: [FrameRule; 6] = [
-    FrameRule { lengths: Lengths::Exactly(13), wrong_length: ReasonCodes { reason: 10, sub_reason: 1 } },
-    FrameRule { lengths: Lengths::Exactly(21), wrong_length: ReasonCodes { reason: 10, sub_reason: 2 } },
-    FrameRule { lengths: Lengths::Exactly(9), wrong_length: ReasonCodes { reason: 10, sub_reason: 3 } },
-    FrameRule { lengths: Lengths::WithMessage(18), wrong_length: ReasonCodes { reason: 10, sub_reason: 5 } },
-    FrameRule { lengths: Lengths::Exactly(3), wrong_length: ReasonCodes { reason: 8, sub_reason: 1 } },
-    FrameRule { lengths: Lengths::Exactly(9), wrong_length: ReasonCodes { reason: 10, sub_reason: 8 } },
+    FrameRule {
+        lengths: Lengths::Exactly(13),
+        wrong_length: ReasonCodes {
+            reason: 10,
+            sub_reason: 1,
+        },
+    },
+    FrameRule {
+        lengths: Lengths::Exactly(21),
+        wrong_length: ReasonCodes {
+            reason: 10,
+            sub_reason: 2,
+        },
+    },
+    FrameRule {
+        lengths: Lengths::Exactly(9),
+        wrong_length: ReasonCodes {
+            reason: 10,
+            sub_reason: 3,
+        },
+    },
+    FrameRule {
+        lengths: Lengths::WithMessage(18),
+        wrong_length: ReasonCodes {
+            reason: 10,
+            sub_reason: 5,
+        },
+    },
+    FrameRule {
+        lengths: Lengths::Exactly(3),
+        wrong_length: ReasonCodes {
+            reason: 8,
+            sub_reason: 1,
+        },
+    },
+    FrameRule {
+        lengths: Lengths::Exactly(9),
+        wrong_length: ReasonCodes {
+            reason: 10,
+            sub_reason: 8,
+        },
+    },
 ];
 
 impl FrameType {

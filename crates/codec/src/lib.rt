@@ -8,4 +8,5 @@ pub mod identifier;
 pub mod refusal;
 pub mod role;
 pub mod safety;
+pub mod seal;
 pub mod telegram;

@@ -1,13 +1,13 @@
 // Telegrams: what a data frame carries.
 ghost use mathlib.Core.Path.{_≡_};
 ghost use mathlib.Core.List.{_++_};
-ghost use Prim.Native.Nat.{_+_, _≤_};
+ghost use Prim.Native.Nat.{_+_, _^_, _≤_, _<_};
+ghost use lib.Dec.{leb};
 ghost use lib.ListN.{length};
 ghost use Rattle.codec.specs.Buffers.{overlay};
 ghost use Rattle.codec.specs.Telegrams.{content-value, telegram-value, telegram-values, content-type, content-bytes, header, telegram-bytes, read-start, read-content, read-telegram, telegram-answer, telegram-after};
 ghost use Rattle.codec.specs.TelegramLaws.{TelegramJudged, TelegramBack};
 use super::bytes::lay;
-use super::bytes::u16_from;
 use super::counters::ExecutionCycle;
 use super::counters::SequenceNumber;
 use super::refusal::Refusal;
@@ -16,20 +16,14 @@ use super::refusal::Refusal;
 #[derive(Clone, Copy)]
 pub enum Content<'a> {
     // opens the exchange: the sender's version and its period in milliseconds
-    EcStart {
-        version: u8,
-        period: u16,
-    },
+    EcStart { version: u8, period: u16 },
     Am(&'a [u8]),
     // asks for an answer
     AmReq(&'a [u8]),
     // is that answer
     AmAck(&'a [u8]),
     // none of these, or an ECStart of another length
-    Other {
-        type_byte: u8,
-        body: &'a [u8],
-    },
+    Other { type_byte: u8, body: &'a [u8] },
 }
 
 #[derive(Clone, Copy)]
@@ -100,7 +94,8 @@ impl<'a> Content<'a> {
 
     // How many bytes stand behind SN and EC.
     fn size(self) -> usize
-        ensures { λ r. ⌜ r ≡ length (content-bytes (content-value (self .entry))) ⌝ }
+        ensures value { λ r. ⌜ r ≡ length (content-bytes (content-value (self .entry))) ⌝ }
+        ensures bound { λ r. ⌜ r < 2 ^ 63 ⌝ }
     {
         match self {
             Content::EcStart { .. } => 3,
@@ -144,7 +139,41 @@ impl<'a> Telegram<'a> {
     {
         let s = self.sn.0.to_be_bytes();
         let e = self.ec.0.to_be_bytes();
-        [self.content.type_byte(), s[0], s[1], s[2], s[3], e[0], e[1], e[2], e[3]]
+        [
+            self.content.type_byte(),
+            s[0],
+            s[1],
+            s[2],
+            s[3],
+            e[0],
+            e[1],
+            e[2],
+            e[3],
+        ]
+    }
+
+    // How many bytes the telegram has.
+    pub(crate) fn size(self) -> usize
+        ensures value { λ r. ⌜ r ≡ length (telegram-bytes (telegram-value (self .entry))) ⌝ }
+        ensures bound { λ r. ⌜ r < 2 ^ 63 + 9 ⌝ }
+    {
+        9 + self.content.size()
+    }
+
+    // Whether what stands behind SN and EC is no longer than a message may be.
+    pub(crate) fn fits(self) -> bool
+        ensures { λ r. ⌜ r ≡ leb (length (content-bytes (telegram-value (self .entry) .content))) 1023 ⌝ }
+    {
+        self.content.size() <= MOST_DATA
+    }
+
+    // Lays `front` and then the telegram at the start of `out`.
+    pub(crate) fn fill(self, front: &[u8], out: &mut [u8])
+        requires { ⌜ length (now front) + length (telegram-bytes (telegram-value self)) ≤ length (now out) ⌝ }
+        ensures after { λ _. ⌜ now (out .exit) ≡ overlay (now (front .entry) ++ telegram-bytes (telegram-value (self .entry))) (now (out .entry)) ⌝ }
+        ensures fits { λ _. ⌜ (telegram-value (self .entry) .sn < 2 ^ 32) × (telegram-value (self .entry) .ec < 2 ^ 32) ⌝ }
+    {
+        self.content.fill(front, &self.head(), out)
     }
 
     // Writes the telegram to the start of `out`, whose rest stays, and says how many bytes it has; a refusal leaves `out` as it was.
@@ -153,14 +182,14 @@ impl<'a> Telegram<'a> {
         ensures after { λ _. ⌜ now (out .exit) ≡ telegram-after (telegram-value (self .entry)) (telegram-bytes (telegram-value (self .entry))) (now (out .entry)) ⌝ }
         ensures back { λ r. ⌜ TelegramBack (telegram-value (self .entry)) r (now (out .exit)) ⌝ }
     {
-        let n = 9 + self.content.size();
+        let n = self.size();
         if out.len() < n {
             return Err(Refusal::BufferTooShort);
         }
-        if n > 9 + MOST_DATA {
+        if !self.fits() {
             return Err(Refusal::MessageTooLong);
         }
-        self.content.fill(&[], &self.head(), out);
+        self.fill(&[], out);
         Ok(n)
     }
 }
