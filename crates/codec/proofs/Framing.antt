@@ -4,18 +4,14 @@ use mathlib.Core.Bool.{Bool, true, cond}
 use mathlib.Core.List.{List, [], _∷_}
 use Prim.Native.Nat.{ℕ, zero, suc, _+_, _≤_, _<_}
 use native.Mathlib.Omega.{arith}
-use native.Mathlib.Nat.{div-one}
 use lib.ListN.{length, getD, take, drop}
 use lib.Seq.{drop-cons}
 use Rattle.std.specs.shelf.Text.{sameBytes}
 use Rattle.std.proofs.shelf.Equals.{ReadsAt, sameBytes-decides}
-use Rattle.std.proofs.shelf.Tests.{cond-true}
 use Rattle.std.specs.declared.option.Option.the-variants.{Some}
 use Rattle.codec.specs.declared.role.Role.{Role}
 use Rattle.codec.specs.declared.frame_type.FrameType.{FrameType}
-use Rattle.codec.specs.Numbers.{bytes}
-use Rattle.codec.specs.FrameTypes.{suits-length}
-use Rattle.codec.specs.Frames.{head-of, most-data, read-frame, read-body, read-as}
+use Rattle.codec.specs.Frames.{head-of, most-data, read-frame, read-typed, read-as}
 
 -- the bytes of p stand in s, from index i on
 reads-from : (p s : List ℕ) (i : ℕ) → i + length p ≤ length s → ReadsAt s i p → take (length p) (drop i s) ≡ p
@@ -27,8 +23,7 @@ reads-from (c ∷ p) s i h r =
 pub begins : (p s : List ℕ) → length p ≤ length s → ReadsAt s 0 p → sameBytes (take (length p) s) p ≡ true
 begins p s h r = sameBytes-decides (take (length p) s) p .1 (reads-from p s 0 (omega arith) r)
 
--- a string whose first byte names a type that its length suits
-pub frame-is : (s : List ℕ) (t : FrameType) (towards : Role) → Some (t, towards) ≡ head-of (getD s 0 0) → true ≡ suits-length t (length s) most-data
-    → read-frame s ≡ read-body t towards (drop 1 s)
-frame-is [] t towards e k = let z : _≡_ {A = ℕ} 0 1 = cc in absurd (omega arith)
-frame-is (h ∷ body) t towards e k = ap (λ o. read-as o body) (sym e) ∙ cond-true _ _ _ (sym k)
+-- a string whose first byte names a type and a direction
+pub frame-is : (s : List ℕ) (t : FrameType) (towards : Role) → Some (t, towards) ≡ head-of (getD s 0 0) → read-frame s ≡ read-typed t towards most-data (drop 1 s)
+frame-is [] t towards e = let z : _≡_ {A = ℕ} 0 1 = cc in absurd (omega arith)
+frame-is (h ∷ body) t towards e = ap (λ o. read-as o body) (sym e)

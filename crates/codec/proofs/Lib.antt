@@ -8,3 +8,5 @@ pub mod Channels
 pub mod Register
 pub mod Long
 pub mod Unique
+pub mod Packets
+pub mod PacketLaws

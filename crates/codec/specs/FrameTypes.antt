@@ -1,8 +1,10 @@
 -- The types of frame: first bytes, lengths and reasons.
-use mathlib.Core.Bool.{Bool, _&&_}
+use mathlib.Core.Bool.{Bool, cond, _&&_}
 use mathlib.Core.Path.{_≡_}
-use Prim.Native.Nat.{ℕ, _+_, _*_}
+use Prim.Native.Nat.{ℕ, _+_, _*_, _/_, _≤_}
 use lib.Dec.{eqb, leb}
+use Rattle.std.specs.declared.option.Option.{Option}
+use Rattle.std.specs.declared.option.Option.the-variants.{Some, None}
 use Rattle.codec.specs.declared.frame_type.FrameType.{FrameType}
 use Rattle.codec.specs.declared.frame_type.FrameType.the-variants.{Au1, Au2, Au3, Dt, Di, Ar}
 use Rattle.codec.specs.declared.frame_type.FrameRule.{FrameRule}
@@ -19,6 +21,17 @@ type-number Au3 = 3
 type-number Dt = 5
 type-number Di = 8
 type-number Ar = 9
+
+-- the type that a first byte names, whatever its flag
+abbrev pub type-named : ℕ → Option FrameType
+type-named first =
+    cond (eqb (first / 2) 1) (Some Au1)
+    (cond (eqb (first / 2) 2) (Some Au2)
+    (cond (eqb (first / 2) 3) (Some Au3)
+    (cond (eqb (first / 2) 5) (Some Dt)
+    (cond (eqb (first / 2) 8) (Some Di)
+    (cond (eqb (first / 2) 9) (Some Ar)
+    None)))))
 
 -- the flag: 1 towards the initiator
 abbrev pub flag : Role → ℕ
@@ -54,3 +67,12 @@ allows (WithMessage least) len most = leb least len && leb len (least + most)
 -- a frame of this type may have len bytes where a message has at most `most`
 abbrev pub suits-length : FrameType → ℕ → ℕ → Bool
 suits-length t len most = allows (rule-of t .lengths) len most
+
+-- the same of what stands behind the first byte, as a fact, whatever the longest message
+abbrev pub Suits : FrameType → ℕ → Type 0
+Suits Au1 n = n ≡ 12
+Suits Au2 n = n ≡ 20
+Suits Au3 n = n ≡ 8
+Suits Dt n = 17 ≤ n
+Suits Di n = n ≡ 2
+Suits Ar n = n ≡ 8

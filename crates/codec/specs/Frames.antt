@@ -78,7 +78,7 @@ sized (ar rb) = true
 sized (di towards codes) = true
 sized (dt towards telegram code) = leb 9 (length telegram) && (leb (length telegram) 1032 && eqb (length code) 8)
 
--- the same of a frame that was read, for those who take its parts
+-- the parts of a data frame that was read, for those who take them
 abbrev pub Parts : Frame → Type 0
 Parts BareDi = Unit {0}
 Parts (Au1 rb) = Unit {0}
@@ -86,7 +86,7 @@ Parts (Au2 mix) = Unit {0}
 Parts (Au3 mix) = Unit {0}
 Parts (Ar rb) = Unit {0}
 Parts (Di towards codes) = Unit {0}
-Parts (Dt towards telegram code) = (9 ≤ length (telegram .now)) × (length (telegram .now) ≤ 1032) × (length (code .now) ≡ 8)
+Parts (Dt towards telegram code) = (9 ≤ length (telegram .now)) × (length (code .now) ≡ 8)
 
 -- Reading:
 
@@ -124,11 +124,14 @@ read-body type.Dt towards body = read-dt towards body
 read-body type.Di towards body = read-di towards body
 read-body type.Ar towards body = Ok (ar (number 0 body))
 
--- first the type, then the length, then the fixed bytes
+-- first the length, where a message has at most `most` bytes, then the fixed bytes
+abbrev pub read-typed : FrameType → Role → ℕ → List ℕ → Result FrameValue Refusal
+read-typed t towards most body = cond (suits-length t (suc (length body)) most) (read-body t towards body) (Err refusal.FrameLength)
+
+-- before both the type
 abbrev pub read-as : Option (FrameType × Role) → List ℕ → Result FrameValue Refusal
 read-as None body = Err refusal.FrameType
-read-as (Some head) body =
-    cond (suits-length (head .0) (suc (length body)) most-data) (read-body (head .0) (head .1) body) (Err refusal.FrameLength)
+read-as (Some head) body = read-typed (head .0) (head .1) most-data body
 
 abbrev pub read-frame : List ℕ → Result FrameValue Refusal
 read-frame [] = Ok bare-di

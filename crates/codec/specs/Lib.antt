@@ -12,3 +12,5 @@ pub mod Words
 pub mod Telegrams
 pub mod TelegramLaws
 pub mod Sealing
+pub mod Packets
+pub mod PacketLaws

@@ -5,7 +5,8 @@ ghost use Prim.Native.Nat.{_≤_};
 ghost use lib.ListN.{length};
 ghost use Rattle.std.specs.Vec.{made};
 ghost use Rattle.codec.specs.Buffers.{overlay};
-ghost use Rattle.codec.specs.Frames.{frame-value, frame-values, sized, Parts, bytes-of, head-of, read-au1, read-au2, read-di, read-dt, read-frame, write-answer, write-after};
+ghost use Rattle.codec.specs.Frames.{frame-value, frame-values, sized, Parts, bytes-of, head-of, read-au1, read-au2, read-di, read-dt, read-body, read-typed, read-frame, write-answer, write-after};
+ghost use Rattle.codec.specs.FrameTypes.{Suits};
 ghost use Rattle.codec.specs.FrameLaws.{Fits-fields, Judged, Written-again, Read-back};
 use super::bytes::lay;
 use super::bytes::u64_from;
@@ -105,7 +106,7 @@ fn di_from(towards: Role, body: &[u8]) -> Result<Frame<'_>, Refusal>
 }
 
 fn dt_from(towards: Role, body: &[u8]) -> Result<Frame<'_>, Refusal>
-    requires { ⌜ 17 ≤ length (now body) ⌝ ∗ ⌜ length (now body) ≤ 1040 ⌝ }
+    requires { ⌜ 17 ≤ length (now body) ⌝ }
     ensures answer { λ r. ⌜ frame-values r ≡ read-dt towards (now (body .entry)) ⌝ }
     ensures parts { λ r. ⌜ made r Parts ⌝ }
 {
@@ -116,6 +117,26 @@ fn dt_from(towards: Role, body: &[u8]) -> Result<Frame<'_>, Refusal>
         telegram,
         code,
     })
+}
+
+// What stands behind the first byte, at a length that suits the type.
+fn typed_from(kind: FrameType, towards: Role, body: &[u8]) -> Result<Frame<'_>, Refusal>
+    requires { ⌜ Suits kind (length (now body)) ⌝ }
+    ensures answer { λ r. ⌜ frame-values r ≡ read-body kind towards (now (body .entry)) ⌝ }
+    ensures parts { λ r. ⌜ made r Parts ⌝ }
+{
+    match kind {
+        FrameType::Au1 => au1_from(body),
+        FrameType::Au2 => au2_from(body),
+        FrameType::Au3 => Ok(Frame::Au3 {
+            ra_xor_rc: u64_from(body),
+        }),
+        FrameType::Dt => dt_from(towards, body),
+        FrameType::Di => di_from(towards, body),
+        FrameType::Ar => Ok(Frame::Ar {
+            rb: u64_from(body),
+        }),
+    }
 }
 
 // First the type, then the length, then what the type's layout says.
@@ -129,22 +150,21 @@ fn parse(s: &[u8]) -> Result<Frame<'_>, Refusal>
     let Some((kind, towards)) = head(*first) else {
         return Err(Refusal::FrameType);
     };
-    if !kind.suits(s.len(), MOST_DATA) {
-        return Err(Refusal::FrameLength);
-    }
-    match kind {
-        FrameType::Au1 => au1_from(body),
-        FrameType::Au2 => au2_from(body),
-        FrameType::Au3 => Ok(Frame::Au3 {
-            ra_xor_rc: u64_from(body),
-        }),
-        FrameType::Dt => dt_from(towards, body),
-        FrameType::Di => di_from(towards, body),
-        FrameType::Ar => Ok(Frame::Ar { rb: u64_from(body) }),
-    }
+    Frame::read_typed(kind, towards, MOST_DATA, body)
 }
 
 impl<'a> Frame<'a> {
+    // Reads what stands behind a first byte whose type and direction are settled, where a message has at most `most` bytes.
+    pub fn read_typed(kind: FrameType, towards: Role, most: usize, body: &'a [u8]) -> Result<Frame<'a>, Refusal>
+        ensures answer { λ r. ⌜ frame-values r ≡ read-typed kind towards most (now (body .entry)) ⌝ }
+        ensures parts { λ r. ⌜ made r Parts ⌝ }
+    {
+        if !kind.suits(1 + body.len(), most) {
+            return Err(Refusal::FrameLength);
+        }
+        typed_from(kind, towards, body)
+    }
+
     // Reads a string as the one frame it is, or refuses it: type, length, fixed bytes, in that order.
     pub fn read(s: &'a [u8]) -> Result<Frame<'a>, Refusal>
         ensures answer { λ r. ⌜ frame-values r ≡ read-frame (now (s .entry)) ⌝ }

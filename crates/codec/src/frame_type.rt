@@ -1,6 +1,6 @@
 // The types of frame: for each the lengths that it may have, and the reason of a release where its length is wrong.
 ghost use mathlib.Core.Path.{_≡_};
-ghost use Rattle.codec.specs.FrameTypes.{rule-of, suits-length};
+ghost use Rattle.codec.specs.FrameTypes.{rule-of, suits-length, type-named};
 
 #[derive(Clone, Copy, PartialEq, Eq, Debug)]
 pub enum FrameType {
@@ -80,6 +80,21 @@ const RULES: [FrameRule; 6] = [
 ];
 
 impl FrameType {
+    // The type that a first byte names, whatever its flag.
+    pub fn named(first: u8) -> Option<FrameType>
+        ensures { λ r. ⌜ r ≡ type-named first ⌝ }
+    {
+        match first / 2 {
+            1 => Some(FrameType::Au1),
+            2 => Some(FrameType::Au2),
+            3 => Some(FrameType::Au3),
+            5 => Some(FrameType::Dt),
+            8 => Some(FrameType::Di),
+            9 => Some(FrameType::Ar),
+            _ => None,
+        }
+    }
+
     // The row of the table.
     pub fn rule(self) -> FrameRule
         ensures { λ r. ⌜ r ≡ rule-of self ⌝ }

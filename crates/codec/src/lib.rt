@@ -5,6 +5,7 @@ pub mod crc;
 pub mod frame;
 pub mod frame_type;
 pub mod identifier;
+pub mod packet;
 pub mod refusal;
 pub mod role;
 pub mod safety;

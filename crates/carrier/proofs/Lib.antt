@@ -1,0 +1,4 @@
+pub mod Sides
+mod Packing
+mod Spots
+mod Kept

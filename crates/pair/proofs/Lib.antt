@@ -1,0 +1,3 @@
+mod Wraps
+mod Merged
+mod Sound

@@ -1,0 +1,11 @@
+pub mod Columns
+pub mod Checks
+pub mod Lines
+pub mod Made
+pub mod Sheets
+pub mod Calls
+pub mod Scripts
+pub mod Writing
+pub mod Laws
+pub mod Examples
+pub mod FirstFault

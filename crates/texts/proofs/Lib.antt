@@ -1,0 +1,6 @@
+pub mod Cuts
+pub mod Digits
+pub mod Glyphs
+pub mod Joins
+pub mod Trips
+pub mod HexTrips
