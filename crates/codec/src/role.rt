@@ -21,7 +21,7 @@ impl Role {
     }
 
     // The flag in the first byte of a frame towards this party.
-    pub(crate) fn flag(self) -> u8
+    pub fn flag(self) -> u8
         ensures { λ r. ⌜ r ≡ flag self ⌝ }
     {
         match self {

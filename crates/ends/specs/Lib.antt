@@ -1,0 +1,6 @@
+pub mod Reasons
+pub mod States
+pub mod Ends
+pub mod Arrivals
+pub mod Ways
+pub mod Effects

@@ -1,0 +1,10 @@
+// The ends of a connection: how each opens, ticks, fetches and stops.
+pub mod answer;
+mod arrival;
+mod effects;
+pub mod end;
+mod judging;
+pub mod reason;
+pub mod session;
+pub mod state;
+mod ways;
