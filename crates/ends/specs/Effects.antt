@@ -1,7 +1,7 @@
 -- What each rule does to an end, and the frame that it puts.
 use mathlib.Core.Bool.{Bool, true, false, cond}
 use mathlib.Core.List.{List, []}
-use Prim.Native.Nat.{ℕ, _+_, _-_}
+use Prim.Native.Nat.{ℕ, _+_, _-_, _<_}
 use lib.Bits.{bitXor}
 use lib.Dec.{eqb, ltb}
 use Rattle.std.specs.declared.option.Option.{Option}
@@ -31,7 +31,7 @@ use Rattle.ends.specs.declared.ways.Exchange.the-variants as exchange
 use Rattle.ends.specs.declared.ways.FetchWay.{FetchWay}
 use Rattle.ends.specs.declared.ways.FetchWay.the-variants as fetch
 use Rattle.ends.specs.Reasons.{reason-codes}
-use Rattle.ends.specs.States.{EndValue, in-wait-au2, in-wait-ar, in-listen, in-wait-au3, in-wait-ec, in-first, in-up}
+use Rattle.ends.specs.States.{EndValue, in-wait-au2, in-wait-ar, in-listen, in-wait-au3, in-wait-ec, in-first, in-up, in-up-fact}
 use Rattle.ends.specs.Ways.{greatest}
 
 -- Ends:
@@ -77,6 +77,26 @@ abbrev pub ack-frame : EndValue → SafetyWord → ℕ → List ℕ
 ack-frame e word sn = data-frame e word sn (am-ack [])
 
 -- Ticks:
+
+-- there is a number for the next data frame
+abbrev pub Numbered : State → Type 0
+Numbered st = in-up-fact (λ sent. sent .0 < greatest) st
+
+-- a way that sends finds it
+abbrev pub Sends-room : State → TickWay → Type 0
+Sends-room st tick.UsedUp = Unit {0}
+Sends-room st tick.Abandons = Unit {0}
+Sends-room st (tick.Releases r) = Unit {0}
+Sends-room st tick.Silent = Unit {0}
+Sends-room st (tick.Sends asks) = Numbered st
+
+-- a tick that raises EC finds a next value, and one that sends a next number
+abbrev pub Room : EndValue → TickWay → Type 0
+Room e tick.UsedUp = Unit {0}
+Room e tick.Abandons = e .ec .0 < greatest
+Room e (tick.Releases r) = e .ec .0 < greatest
+Room e tick.Silent = e .ec .0 < greatest
+Room e (tick.Sends asks) = (e .ec .0 < greatest) × Numbered (e .state)
 
 -- a data frame more was put
 abbrev pub one-more : State → State

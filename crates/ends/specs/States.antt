@@ -93,6 +93,17 @@ in-up is else (state.WaitFirst words last synced) = else
 in-up is else (state.Up words sent last synced) = is words sent last synced
 in-up is else (state.Out release) = else
 
+-- a fact of the last number put, in up
+abbrev pub in-up-fact : (SequenceNumber → Type 0) → State → Type 0
+in-up-fact is (state.WaitAu2 rb rc) = Unit {0}
+in-up-fact is (state.WaitAr ra rb rc) = Unit {0}
+in-up-fact is (state.Listen ra) = Unit {0}
+in-up-fact is (state.WaitAu3 ra rb) = Unit {0}
+in-up-fact is (state.WaitEc words) = Unit {0}
+in-up-fact is (state.WaitFirst words last synced) = Unit {0}
+in-up-fact is (state.Up words sent last synced) = is sent
+in-up-fact is (state.Out release) = Unit {0}
+
 -- an end: the values of its parameter set, its role, its execution cycle, the count of its ticks, its state
 pub record EndValue : Type 0 where
   pub values : Values

@@ -6,11 +6,13 @@ ghost use Rattle.codec.specs.Frames.{frame-value, read-frame};
 ghost use Rattle.codec.specs.Sealing.{word-in};
 ghost use Rattle.codec.specs.Telegrams.{telegram-value, content-value};
 ghost use Rattle.ends.specs.Ends.{end-value};
+ghost use Rattle.ends.specs.Effects.{Room, Sends-room};
 ghost use Rattle.ends.specs.Ways.{same-word, limited, up-way, start-limit, risen-way, tick-way, timely, age, numbered, aged, exchange-way, start-way, telegram-way, data-way, frame-way, arrival-way, heard, fetch-way, stray, taken, awaited};
 use super::arrival::judge;
 use super::end::End;
 use super::reason::Reason;
 use super::state::State;
+use super::state::Words;
 use super::ways::Exchange;
 use super::ways::FetchWay;
 use super::ways::TickWay;
@@ -27,13 +29,15 @@ use params::values::Values;
 
 // A way out where the count is above a limit.
 fn limit(limit: u32, count: u64, way: TickWay) -> TickWay
-    ensures { λ r. ⌜ r ≡ limited limit count way ⌝ }
+    ensures value { λ r. ⌜ r ≡ limited limit count way ⌝ }
+    ensures room { λ r. ⌜ ((st : State) → Sends-room st way → Sends-room st r) ⌝ }
 {
     if u64::from(limit) < count { way } else { TickWay::Silent }
 }
 
 fn tick_up(v: &Values, count: u64, sent: SequenceNumber) -> TickWay
-    ensures { λ r. ⌜ r ≡ up-way (now (v .entry)) count sent ⌝ }
+    ensures value { λ r. ⌜ r ≡ up-way (now (v .entry)) count sent ⌝ }
+    ensures room { λ r. ⌜ ((words : Words) (last : SequenceNumber) (synced : ExecutionCycle) → Sends-room (State.Up words sent last synced) r) ⌝ }
 {
     if u64::from(v.ask.0) + u64::from(v.wait.0) < count {
         TickWay::Releases(Reason::AckTimeout)
@@ -48,7 +52,8 @@ fn tick_up(v: &Values, count: u64, sent: SequenceNumber) -> TickWay
 
 // By state, at the count that the tick has brought.
 fn tick_risen(v: &Values, role: Role, count: u64, state: State) -> TickWay
-    ensures { λ r. ⌜ r ≡ risen-way (now (v .entry)) role count state ⌝ }
+    ensures value { λ r. ⌜ r ≡ risen-way (now (v .entry)) role count state ⌝ }
+    ensures room { λ r. ⌜ Sends-room state r ⌝ }
 {
     match (state, role) {
         (State::WaitAu2 { .. }, _) => limit(v.setup.0, count, TickWay::Abandons),
@@ -63,7 +68,8 @@ fn tick_risen(v: &Values, role: Role, count: u64, state: State) -> TickWay
 impl End {
     // Which rule applies to a tick.
     pub(crate) fn tick_way(&self) -> TickWay
-        ensures { λ r. ⌜ r ≡ tick-way (end-value (now (self .entry))) ⌝ }
+        ensures value { λ r. ⌜ r ≡ tick-way (end-value (now (self .entry))) ⌝ }
+        ensures room { λ r. ⌜ Room (end-value (now (self .entry))) r ⌝ }
     {
         if self.ec.0 == u32::MAX {
             return TickWay::UsedUp;
