@@ -4,3 +4,4 @@ pub mod Ends
 pub mod Arrivals
 pub mod Ways
 pub mod Effects
+pub mod Puts

@@ -3,6 +3,7 @@ pub mod answer;
 mod arrival;
 mod effects;
 pub mod end;
+mod frames;
 mod judging;
 pub mod reason;
 pub mod session;
