@@ -212,6 +212,18 @@ put-ar st = in-wait-au3 (λ ra rb. Some (bytes-of (ar rb))) None st
 abbrev pub put-first-start : EndValue → State → Option (List ℕ)
 put-first-start e st = in-wait-ar (λ ra rb rc. Some (start-frame e (words-by (e .values) ra rc .write))) None st
 
+-- the frames of the opening
+abbrev pub put-opening : EndValue → FetchWay → Option (List ℕ)
+put-opening e fetch.Drops = None
+put-opening e (fetch.LeftByFar codes) = None
+put-opening e (fetch.Releases r) = None
+put-opening e (fetch.AnswersAu1 rb) = put-au2 rb (e .state)
+put-opening e (fetch.AnswersAu2 ra) = put-au3 ra (e .state)
+put-opening e (fetch.AnswersAu3 rc) = put-ar (e .state)
+put-opening e fetch.AnswersAr = None
+put-opening e (fetch.Starts sn ec) = None
+put-opening e (fetch.Takes kind sn ec) = None
+
 abbrev pub fetch-put : EndValue → FetchWay → Option (List ℕ)
 fetch-put e fetch.Drops = None
 fetch-put e (fetch.LeftByFar codes) = None

@@ -48,7 +48,7 @@ impl End {
     }
 
     // The words of a connection: the far end's session number, and this end's own.
-    fn words(&self, theirs: u64, mine: u64) -> Words
+    pub(crate) fn words(&self, theirs: u64, mine: u64) -> Words
         ensures { λ r. ⌜ r ≡ words-by (end-value (now (self .entry)) .values) theirs mine ⌝ }
     {
         let v = self.params.values();
