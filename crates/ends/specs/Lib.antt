@@ -5,3 +5,4 @@ pub mod Arrivals
 pub mod Ways
 pub mod Effects
 pub mod Puts
+pub mod Calls

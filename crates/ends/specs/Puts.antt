@@ -27,3 +27,8 @@ front (Some n) out = Some (take n out)
 abbrev pub Short : Option ℕ → Type 0
 Short None = Unit {0}
 Short (Some n) = n ≤ longest-frame
+
+-- within a buffer of so many bytes
+abbrev pub Fits : Option ℕ → ℕ → Type 0
+Fits None size = Unit {0}
+Fits (Some n) size = n ≤ size

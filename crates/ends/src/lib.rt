@@ -1,6 +1,7 @@
 // The ends of a connection: how each opens, ticks, fetches and stops.
 pub mod answer;
 mod arrival;
+pub mod calls;
 mod effects;
 pub mod end;
 mod frames;
