@@ -1,2 +1,4 @@
 pub mod Arriving
 pub mod Laying
+pub mod Calling
+pub mod Keeping

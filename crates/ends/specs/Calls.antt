@@ -73,14 +73,14 @@ Puts m m′ from (Some s) = PutDone m m′ from s
 -- Ticks:
 
 -- the message that goes out: one that is too long is left out
-abbrev pub said : EndValue → List ℕ → List ℕ
-said e message = cond (leb (length message) (e .values .longest)) message []
+abbrev pub said : Values → List ℕ → List ℕ
+said v message = cond (leb (length message) (v .longest)) message []
 
 -- why a message is refused though the tick goes on: too long, or there and the end is not up after the tick
-abbrev pub message-refusal : EndValue → List ℕ → State → Option Refusal
-message-refusal e message after =
-    cond (leb (length message) (e .values .longest))
-    (cond (eqb (length message) 0) None (in-up (λ words sent last synced. None) (Some refusal.EndNotUp) after))
+abbrev pub message-refusal : Values → ℕ → State → Option Refusal
+message-refusal v len after =
+    cond (leb len (v .longest))
+    (cond (eqb len 0) None (in-up (λ words sent last synced. None) (Some refusal.EndNotUp) after))
     (Some refusal.MessageTooLong)
 
 -- a call that was refused: nothing changed
@@ -93,9 +93,9 @@ pub record Unchanged (e e′ : EndValue) (m m′ : Meaning) (out out′ : List �
 -- a tick that was not: the rule that applies says what it does
 pub record TickDone (e e′ : EndValue) (m m′ : Meaning) (message out out′ : List ℕ) (r : Answer) : Type 0 where
   pub end : e′ ≡ after-tick e (tick-way e)
-  pub carrier : Puts m m′ (e .role) (tick-put e (tick-way e) (said e message))
-  pub output : out′ ≡ put-into (tick-put e (tick-way e) (said e message)) out
-  pub answer : r ≡ answering e′ (message-refusal e message (e′ .state)) None (tick-put e (tick-way e) (said e message))
+  pub carrier : Puts m m′ (e .role) (tick-put e (tick-way e) (said (e .values) message))
+  pub output : out′ ≡ put-into (tick-put e (tick-way e) (said (e .values) message)) out
+  pub answer : r ≡ answering e′ (message-refusal (e .values) (length message) (e′ .state)) None (tick-put e (tick-way e) (said (e .values) message))
 
 abbrev pub Ticked : Option Refusal → EndValue → EndValue → Meaning → Meaning → List ℕ → List ℕ → List ℕ → Answer → Type 0
 Ticked (Some x) e e′ m m′ message out out′ r = Unchanged e e′ m m′ out out′ x r

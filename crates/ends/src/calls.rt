@@ -7,8 +7,9 @@ ghost use Rattle.std.specs.declared.option.Option.the-variants.{Some, None};
 ghost use Rattle.ends.specs.Calls.{answering, call-refusal, out-refusal, tick-refusal, fetch-refusal, message-refusal, said, Ticks, Fetches, Stops, Puts};
 ghost use Rattle.ends.specs.Ends.{end-value};
 ghost use Rattle.ends.specs.States.{status-of};
-ghost use Rattle.ends.specs.Effects.{delivers};
-ghost use Rattle.ends.specs.Puts.{longest-frame, front, put-length, Fits};
+ghost use Rattle.ends.specs.Ways.{tick-way, fetch-way};
+ghost use Rattle.ends.specs.Effects.{after-tick, after-fetch, tick-put, fetch-put, delivers};
+ghost use Rattle.ends.specs.Puts.{longest-frame, front, put-length, put-into, Short, Fits};
 use super::answer::Answer;
 use super::answer::Place;
 use super::end::End;
@@ -85,5 +86,106 @@ fn place(way: FetchWay, n: usize) -> Option<Place>
             }
         }
         _ => None,
+    }
+}
+
+impl End {
+    // Why a message is refused though the tick goes on; the end is as it is after the tick.
+    fn message_refusal(&self, len: usize) -> Option<Refusal>
+        ensures { λ r. ⌜ r ≡ message-refusal (end-value (now (self .entry)) .values) len (now (self .entry) .state) ⌝ }
+    {
+        let v = self.params.values();
+        if len > usize::from(v.longest) {
+            return Some(Refusal::MessageTooLong);
+        }
+        match self.state {
+            State::Up { .. } => None,
+            _ if len == 0 => None,
+            _ => Some(Refusal::EndNotUp),
+        }
+    }
+
+    // A tick that is not refused: the frame it puts is laid at the start of `out`.
+    fn go_on(&mut self, message: &[u8], out: &mut [u8]) -> Option<usize>
+        requires { ⌜ longest-frame ≤ length (now out) ⌝ }
+        ensures end { λ _. ⌜ end-value (now (self .exit)) ≡ after-tick (end-value (now (self .entry))) (tick-way (end-value (now (self .entry)))) ⌝ }
+        ensures value { λ r. ⌜ r ≡ put-length (tick-put (end-value (now (self .entry))) (tick-way (end-value (now (self .entry)))) (said (end-value (now (self .entry)) .values) (now (message .entry)))) ⌝ }
+        ensures after { λ _. ⌜ now (out .exit) ≡ put-into (tick-put (end-value (now (self .entry))) (tick-way (end-value (now (self .entry)))) (said (end-value (now (self .entry)) .values) (now (message .entry)))) (now (out .entry)) ⌝ }
+        ensures short { λ r. ⌜ Short r ⌝ }
+    {
+        let way = self.tick_way();
+        let v = self.params.values();
+        let laid = if message.len() <= usize::from(v.longest) {
+            self.lay_tick(way, message, out)
+        } else {
+            self.lay_tick(way, &[], out)
+        };
+        self.follow_tick(way);
+        laid
+    }
+
+    // One tick of the end, with a message, which may be empty.
+    pub fn tick<C: Carrier>(&mut self, carrier: &mut C, message: &[u8], out: &mut [u8]) -> Answer
+        ensures { λ r. ⌜ Ticks (end-value (now (self .entry))) (end-value (now (self .exit))) (meaning (now (carrier .entry))) (meaning (now (carrier .exit))) (now (message .entry)) (now (out .entry)) (now (out .exit)) r ⌝ }
+    {
+        let room = out.len() >= LONGEST_FRAME;
+        if let Some(refused) = refusal(carrier.max_len(), room, self.out_refusal()) {
+            return self.answer(Some(refused), None, None);
+        }
+        let laid = self.go_on(message, out);
+        put(carrier, self.role, laid, out);
+        self.answer(self.message_refusal(message.len()), None, laid)
+    }
+}
+
+impl End {
+    // What a fetched string does: the frame it makes the end put is laid at the start of `out`.
+    fn take(&mut self, s: &[u8], out: &mut [u8]) -> (Option<Place>, Option<usize>)
+        requires { ⌜ longest-frame ≤ length (now out) ⌝ }
+        ensures end { λ _. ⌜ end-value (now (self .exit)) ≡ after-fetch (end-value (now (self .entry))) (fetch-way (end-value (now (self .entry))) (now (s .entry))) ⌝ }
+        ensures place { λ r. ⌜ r .0 ≡ delivers (fetch-way (end-value (now (self .entry))) (now (s .entry))) (length (now (s .entry))) ⌝ }
+        ensures value { λ r. ⌜ r .1 ≡ put-length (fetch-put (end-value (now (self .entry))) (fetch-way (end-value (now (self .entry))) (now (s .entry)))) ⌝ }
+        ensures after { λ _. ⌜ now (out .exit) ≡ put-into (fetch-put (end-value (now (self .entry))) (fetch-way (end-value (now (self .entry))) (now (s .entry)))) (now (out .entry)) ⌝ }
+        ensures short { λ r. ⌜ Short (r .1) ⌝ }
+    {
+        let way = self.fetch_way(s);
+        let laid = self.lay_fetch(way, out);
+        self.follow_fetch(way);
+        (place(way, s.len()), laid)
+    }
+
+    // Takes what comes out of the carrier, if anything does.
+    pub fn fetch<C: Carrier>(&mut self, carrier: &mut C, buf: &mut [u8], out: &mut [u8]) -> Answer
+        ensures { λ r. ⌜ Fetches (end-value (now (self .entry))) (end-value (now (self .exit))) (meaning (now (carrier .entry))) (meaning (now (carrier .exit))) (now (buf .entry)) (now (buf .exit)) (now (out .entry)) (now (out .exit)) r ⌝ }
+    {
+        let largest = carrier.max_len();
+        let room = buf.len() >= largest && out.len() >= LONGEST_FRAME;
+        if let Some(refused) = refusal(largest, room, self.out_refusal()) {
+            return self.answer(Some(refused), None, None);
+        }
+        match carrier.fetch(self.role, buf) {
+            Ok(Some(n)) => {
+                let (delivered, laid) = self.take(&buf[0..n], out);
+                put(carrier, self.role, laid, out);
+                self.answer(None, delivered, laid)
+            }
+            Ok(None) => self.answer(None, None, None),
+            Err(_) => unreachable(),
+        }
+    }
+
+    // Takes the token back, and releases the end unless it is out.
+    pub fn stop<C: Carrier>(&mut self, carrier: &mut C, token: StopToken) -> Answer
+        ensures { λ r. ⌜ Stops (end-value (now (self .entry))) (end-value (now (self .exit))) (meaning (now (carrier .entry))) (meaning (now (carrier .exit))) r ⌝ }
+    {
+        let StopToken { spent: () } = token;
+        if let State::Out(_) = self.state {
+            return self.answer(None, None, None);
+        }
+        let mut out = [0u8; LONGEST_FRAME];
+        let laid = Some(self.lay_release(Reason::Stopped, &mut out));
+        self.release(Reason::Stopped);
+        put(carrier, self.role, laid, &out);
+        self.answer(None, None, laid)
     }
 }

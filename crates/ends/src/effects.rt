@@ -33,7 +33,7 @@ impl End {
         self.count = Ticks(self.count.0 + 1);
     }
 
-    fn release(&mut self, reason: Reason)
+    pub(crate) fn release(&mut self, reason: Reason)
         ensures { λ _. ⌜ end-value (now (self .exit)) ≡ released (end-value (now (self .entry))) reason ⌝ }
     {
         self.state = State::Out(Release::Own(reason));

@@ -77,7 +77,7 @@ fn lay_frame(frame: Frame<'_>, out: &mut [u8]) -> usize
 }
 
 impl End {
-    fn lay_release(&self, reason: Reason, out: &mut [u8]) -> usize
+    pub(crate) fn lay_release(&self, reason: Reason, out: &mut [u8]) -> usize
         requires { ⌜ longest-frame ≤ length (now out) ⌝ }
         ensures value { λ r. ⌜ r ≡ length (release-frame (end-value (now (self .entry))) reason) ⌝ }
         ensures after { λ _. ⌜ now (out .exit) ≡ overlay (release-frame (end-value (now (self .entry))) reason) (now (out .entry)) ⌝ }
