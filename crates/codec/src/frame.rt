@@ -133,9 +133,7 @@ fn typed_from(kind: FrameType, towards: Role, body: &[u8]) -> Result<Frame<'_>, 
         }),
         FrameType::Dt => dt_from(towards, body),
         FrameType::Di => di_from(towards, body),
-        FrameType::Ar => Ok(Frame::Ar {
-            rb: u64_from(body),
-        }),
+        FrameType::Ar => Ok(Frame::Ar { rb: u64_from(body) }),
     }
 }
 
@@ -155,7 +153,12 @@ fn parse(s: &[u8]) -> Result<Frame<'_>, Refusal>
 
 impl<'a> Frame<'a> {
     // Reads what stands behind a first byte whose type and direction are settled, where a message has at most `most` bytes.
-    pub fn read_typed(kind: FrameType, towards: Role, most: usize, body: &'a [u8]) -> Result<Frame<'a>, Refusal>
+    pub fn read_typed(
+        kind: FrameType,
+        towards: Role,
+        most: usize,
+        body: &'a [u8],
+    ) -> Result<Frame<'a>, Refusal>
         ensures answer { λ r. ⌜ frame-values r ≡ read-typed kind towards most (now (body .entry)) ⌝ }
         ensures parts { λ r. ⌜ made r Parts ⌝ }
     {

@@ -6,3 +6,4 @@ pub mod Ways
 pub mod Effects
 pub mod Puts
 pub mod Calls
+pub mod Openings

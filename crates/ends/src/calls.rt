@@ -1,9 +1,11 @@
 // The calls on an end: tick, fetch, stop.
 ghost use mathlib.Core.Path.{_≡_};
-ghost use mathlib.Core.Bool.{Bool};
+ghost use mathlib.Core.Bool.{_&&_};
+ghost use lib.Dec.{leb};
 ghost use Prim.Native.Nat.{_≤_};
 ghost use lib.ListN.{length};
 ghost use Rattle.std.specs.declared.option.Option.the-variants.{Some, None};
+ghost use Rattle.codec.specs.Numbers.{Bytes};
 ghost use Rattle.ends.specs.Calls.{answering, call-refusal, out-refusal, tick-refusal, fetch-refusal, message-refusal, said, Ticks, Fetches, Stops, Puts};
 ghost use Rattle.ends.specs.Ends.{end-value};
 ghost use Rattle.ends.specs.States.{status-of};
@@ -37,6 +39,13 @@ pub(crate) fn refusal(largest: usize, room: bool, other: Option<Refusal>) -> Opt
     }
 }
 
+// Whether a fetch buffer and an output buffer are long enough.
+fn has_room(largest: usize, buf: usize, out: usize) -> bool
+    ensures { λ r. ⌜ r ≡ (leb largest buf && leb longest-frame out) ⌝ }
+{
+    largest <= buf && LONGEST_FRAME <= out
+}
+
 // Puts what stands at the start of `out`, if anything was laid there.
 pub(crate) fn put<C: Carrier>(carrier: &mut C, from: Role, laid: Option<usize>, out: &[u8])
     requires { ⌜ Fits laid (length (now out)) ⌝ }
@@ -49,7 +58,12 @@ pub(crate) fn put<C: Carrier>(carrier: &mut C, from: Role, laid: Option<usize>, 
 
 impl End {
     // The answer by the end's state as it is now.
-    pub(crate) fn answer(&self, refused: Option<Refusal>, delivered: Option<Place>, put: Option<usize>) -> Answer
+    pub(crate) fn answer(
+        &self,
+        refused: Option<Refusal>,
+        delivered: Option<Place>,
+        put: Option<usize>,
+    ) -> Answer
         ensures { λ r. ⌜ r ≡ record { refused = refused; status = status-of (end-value (now (self .entry)) .state); delivered = delivered; put = put } ⌝ }
     {
         Answer {
@@ -147,6 +161,7 @@ impl End {
         ensures value { λ r. ⌜ r .1 ≡ put-length (fetch-put (end-value (now (self .entry))) (fetch-way (end-value (now (self .entry))) (now (s .entry)))) ⌝ }
         ensures after { λ _. ⌜ now (out .exit) ≡ put-into (fetch-put (end-value (now (self .entry))) (fetch-way (end-value (now (self .entry))) (now (s .entry)))) (now (out .entry)) ⌝ }
         ensures short { λ r. ⌜ Short (r .1) ⌝ }
+        ensures octets { λ _. ⌜ Bytes (now (s .entry)) ⌝ }
     {
         let way = self.fetch_way(s);
         let laid = self.lay_fetch(way, out);
@@ -159,8 +174,11 @@ impl End {
         ensures { λ r. ⌜ Fetches (end-value (now (self .entry))) (end-value (now (self .exit))) (meaning (now (carrier .entry))) (meaning (now (carrier .exit))) (now (buf .entry)) (now (buf .exit)) (now (out .entry)) (now (out .exit)) r ⌝ }
     {
         let largest = carrier.max_len();
-        let room = buf.len() >= largest && out.len() >= LONGEST_FRAME;
-        if let Some(refused) = refusal(largest, room, self.out_refusal()) {
+        if let Some(refused) = refusal(
+            largest,
+            has_room(largest, buf.len(), out.len()),
+            self.out_refusal(),
+        ) {
             return self.answer(Some(refused), None, None);
         }
         match carrier.fetch(self.role, buf) {

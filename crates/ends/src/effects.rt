@@ -93,8 +93,7 @@ impl End {
             sent,
             last,
             synced,
-        } = self.state
-        {
+        } = self.state {
             self.state = State::Up {
                 words,
                 sent: SequenceNumber(sent.0 + 1),
@@ -151,8 +150,15 @@ impl End {
         match (way, self.state) {
             (FetchWay::LeftByFar(codes), _) => self.state = State::Out(Release::Far(codes)),
             (FetchWay::Releases(reason), _) => self.release(reason),
-            (FetchWay::AnswersAu1 { rb }, State::Listen { ra }) => self.state = State::WaitAu3 { ra, rb },
-            (FetchWay::AnswersAu2 { ra }, State::WaitAu2 { rb, rc }) => self.state = State::WaitAr { ra, rb, rc },
+            (FetchWay::AnswersAu1 { rb }, State::Listen { ra }) => self.state = State::WaitAu3 {
+                ra,
+                rb,
+            },
+            (FetchWay::AnswersAu2 { ra }, State::WaitAu2 { rb, rc }) => self.state = State::WaitAr {
+                ra,
+                rb,
+                rc,
+            },
             (FetchWay::AnswersAu3 { rc }, State::WaitAu3 { ra, .. }) => {
                 let words = self.words(rc, ra);
                 self.state = State::WaitEc { words };
@@ -162,12 +168,13 @@ impl End {
                 self.restart(State::WaitEc { words });
             }
             (FetchWay::Starts { sn, ec }, State::WaitEc { words }) => self.start(words, sn, ec),
-            (FetchWay::Takes { kind, sn, ec }, State::WaitFirst { words, .. }) => self.restart(State::Up {
-                words,
-                sent: first_sent(kind),
-                last: sn,
-                synced: ec,
-            }),
+            (FetchWay::Takes { kind, sn, ec }, State::WaitFirst { words, .. }) =>
+                self.restart(State::Up {
+                    words,
+                    sent: first_sent(kind),
+                    last: sn,
+                    synced: ec,
+                }),
             (FetchWay::Takes { kind, sn, ec }, _) => self.take_up(kind, sn, ec),
             _ => {}
         }

@@ -28,7 +28,7 @@ use codec::seal::seal;
 use codec::telegram::Content;
 use codec::telegram::Telegram;
 
-fn au1(rb: u64) -> Frame<'static>
+pub(crate) fn au1(rb: u64) -> Frame<'static>
     ensures { λ r. ⌜ frame-value r ≡ au1 rb ⌝ }
 {
     Frame::Au1 { rb }
@@ -65,7 +65,7 @@ fn ec_start(version: u8, period: u16) -> Content<'static>
 }
 
 // Lays a frame of the opening, or a release, at the start of `out`.
-fn lay_frame(frame: Frame<'_>, out: &mut [u8]) -> usize
+pub(crate) fn lay_frame(frame: Frame<'_>, out: &mut [u8]) -> usize
     requires { ⌜ length (bytes-of (frame-value frame)) ≤ length (now out) ⌝ ∗ ⌜ sized (frame-value frame) ≡ true ⌝ }
     ensures value { λ r. ⌜ r ≡ length (bytes-of (frame-value (frame .entry))) ⌝ }
     ensures after { λ _. ⌜ now (out .exit) ≡ overlay (bytes-of (frame-value (frame .entry))) (now (out .entry)) ⌝ }
@@ -86,7 +86,14 @@ impl End {
     }
 
     // A data frame towards the far end, sealed with the word.
-    fn lay_data(&self, word: SafetyWord, sn: SequenceNumber, ec: ExecutionCycle, content: Content<'_>, out: &mut [u8]) -> usize
+    fn lay_data(
+        &self,
+        word: SafetyWord,
+        sn: SequenceNumber,
+        ec: ExecutionCycle,
+        content: Content<'_>,
+        out: &mut [u8],
+    ) -> usize
         requires { ⌜ longest-frame ≤ length (now out) ⌝ ∗ ⌜ length (content-bytes (content-value content)) ≤ 1023 ⌝ }
         ensures value { λ r. ⌜ r ≡ length (sealed (far (now (self .entry) .role)) (telegram-bytes (record { sn = sn .0; ec = ec .0; content = content-value (content .entry) })) (word .0)) ⌝ }
         ensures after { λ _. ⌜ now (out .exit) ≡ overlay (sealed (far (now (self .entry) .role)) (telegram-bytes (record { sn = sn .0; ec = ec .0; content = content-value (content .entry) })) (word .0)) (now (out .entry)) ⌝ }
@@ -145,7 +152,13 @@ impl End {
         ensures short { λ r. ⌜ r ≤ longest-frame ⌝ }
     {
         let v = self.params.values();
-        self.lay_data(word, SequenceNumber(0), self.ec, ec_start(v.version, v.period.0), out)
+        self.lay_data(
+            word,
+            SequenceNumber(0),
+            self.ec,
+            ec_start(v.version, v.period.0),
+            out,
+        )
     }
 
     fn lay_ack(&self, word: SafetyWord, sn: SequenceNumber, out: &mut [u8]) -> usize
@@ -158,7 +171,13 @@ impl End {
     }
 
     // AM+ACK for an AM+REQ that was accepted in up, or the release where no number is left.
-    fn lay_answer(&self, word: SafetyWord, sent: SequenceNumber, kind: Exchange, out: &mut [u8]) -> Option<usize>
+    fn lay_answer(
+        &self,
+        word: SafetyWord,
+        sent: SequenceNumber,
+        kind: Exchange,
+        out: &mut [u8],
+    ) -> Option<usize>
         requires { ⌜ longest-frame ≤ length (now out) ⌝ }
         ensures value { λ r. ⌜ r ≡ put-length (answer-up (end-value (now (self .entry))) word sent kind) ⌝ }
         ensures after { λ _. ⌜ now (out .exit) ≡ put-into (answer-up (end-value (now (self .entry))) word sent kind) (now (out .entry)) ⌝ }
@@ -182,7 +201,11 @@ impl End {
         ensures short { λ r. ⌜ Short r ⌝ }
     {
         match (self.state, kind) {
-            (State::WaitFirst { words, .. }, Exchange::Req) => Some(self.lay_ack(words.write, SequenceNumber(1), out)),
+            (State::WaitFirst { words, .. }, Exchange::Req) => Some(self.lay_ack(
+                words.write,
+                SequenceNumber(1),
+                out,
+            )),
             (State::Up { words, sent, .. }, _) => self.lay_answer(words.write, sent, kind, out),
             _ => None,
         }
@@ -196,9 +219,18 @@ impl End {
         ensures short { λ r. ⌜ Short r ⌝ }
     {
         match (way, self.state) {
-            (FetchWay::AnswersAu1 { rb }, State::Listen { ra }) => Some(lay_frame(au2(ra ^ rb), out)),
-            (FetchWay::AnswersAu2 { ra }, State::WaitAu2 { rc, .. }) => Some(lay_frame(au3(ra ^ rc), out)),
-            (FetchWay::AnswersAu3 { .. }, State::WaitAu3 { rb, .. }) => Some(lay_frame(ar(rb), out)),
+            (FetchWay::AnswersAu1 { rb }, State::Listen { ra }) => Some(lay_frame(
+                au2(ra ^ rb),
+                out,
+            )),
+            (FetchWay::AnswersAu2 { ra }, State::WaitAu2 { rc, .. }) => Some(lay_frame(
+                au3(ra ^ rc),
+                out,
+            )),
+            (FetchWay::AnswersAu3 { .. }, State::WaitAu3 { rb, .. }) => Some(lay_frame(
+                ar(rb),
+                out,
+            )),
             _ => None,
         }
     }
@@ -214,9 +246,13 @@ impl End {
             (FetchWay::Drops, _, _) => None,
             (FetchWay::LeftByFar(_), _, _) => None,
             (FetchWay::Releases(reason), _, _) => Some(self.lay_release(reason, out)),
-            (FetchWay::AnswersAr, State::WaitAr { ra, rc, .. }, _) => Some(self.lay_start(self.words(ra, rc).write, out)),
+            (FetchWay::AnswersAr, State::WaitAr { ra, rc, .. }, _) => Some(self.lay_start(
+                self.words(ra, rc).write,
+                out,
+            )),
             (FetchWay::AnswersAr, _, _) => None,
-            (FetchWay::Starts { .. }, State::WaitEc { words }, Role::Responder) => Some(self.lay_start(words.write, out)),
+            (FetchWay::Starts { .. }, State::WaitEc { words }, Role::Responder) =>
+                Some(self.lay_start(words.write, out)),
             (FetchWay::Starts { .. }, _, _) => None,
             (FetchWay::Takes { kind, .. }, _, _) => self.lay_telegram(kind, out),
             _ => self.lay_opening(way, out),

@@ -32,7 +32,11 @@ fn limit(limit: u32, count: u64, way: TickWay) -> TickWay
     ensures value { λ r. ⌜ r ≡ limited limit count way ⌝ }
     ensures room { λ r. ⌜ ((st : State) → Sends-room st way → Sends-room st r) ⌝ }
 {
-    if u64::from(limit) < count { way } else { TickWay::Silent }
+    if u64::from(limit) < count {
+        way
+    } else {
+        TickWay::Silent
+    }
 }
 
 fn tick_up(v: &Values, count: u64, sent: SequenceNumber) -> TickWay
@@ -57,9 +61,21 @@ fn tick_risen(v: &Values, role: Role, count: u64, state: State) -> TickWay
 {
     match (state, role) {
         (State::WaitAu2 { .. }, _) => limit(v.setup.0, count, TickWay::Abandons),
-        (State::WaitAr { .. }, _) => limit(v.setup.0, count, TickWay::Releases(Reason::SetupTimeout)),
-        (State::WaitEc { .. }, Role::Initiator) => limit(v.wait.0, count, TickWay::Releases(Reason::FirstTimeout)),
-        (State::WaitFirst { .. }, _) => limit(v.wait.0, count, TickWay::Releases(Reason::FirstTimeout)),
+        (State::WaitAr { .. }, _) => limit(
+            v.setup.0,
+            count,
+            TickWay::Releases(Reason::SetupTimeout),
+        ),
+        (State::WaitEc { .. }, Role::Initiator) => limit(
+            v.wait.0,
+            count,
+            TickWay::Releases(Reason::FirstTimeout),
+        ),
+        (State::WaitFirst { .. }, _) => limit(
+            v.wait.0,
+            count,
+            TickWay::Releases(Reason::FirstTimeout),
+        ),
         (State::Up { sent, .. }, _) => tick_up(v, count, sent),
         _ => TickWay::Silent,
     }
@@ -112,7 +128,13 @@ fn by_stray(type_byte: u8, start: FetchWay) -> FetchWay
 }
 
 // A telegram of the data exchange whose number is good, if it is timely.
-fn by_age(v: &Values, count: u32, synced: ExecutionCycle, kind: Exchange, telegram: Telegram<'_>) -> FetchWay
+fn by_age(
+    v: &Values,
+    count: u32,
+    synced: ExecutionCycle,
+    kind: Exchange,
+    telegram: Telegram<'_>,
+) -> FetchWay
     ensures { λ r. ⌜ r ≡ aged (now (v .entry)) count synced (telegram-value (telegram .entry)) (taken kind (telegram-value (telegram .entry))) ⌝ }
 {
     if !is_timely(v, count, synced, telegram.ec) {
@@ -126,7 +148,13 @@ fn by_age(v: &Values, count: u32, synced: ExecutionCycle, kind: Exchange, telegr
 }
 
 // AM+ACK has a place only where it is awaited; its age is judged first.
-fn by_ack(v: &Values, count: u32, due: bool, synced: ExecutionCycle, telegram: Telegram<'_>) -> FetchWay
+fn by_ack(
+    v: &Values,
+    count: u32,
+    due: bool,
+    synced: ExecutionCycle,
+    telegram: Telegram<'_>,
+) -> FetchWay
     ensures { λ r. ⌜ r ≡ aged (now (v .entry)) count synced (telegram-value (telegram .entry)) (awaited due (telegram-value (telegram .entry))) ⌝ }
 {
     if !is_timely(v, count, synced, telegram.ec) {
@@ -139,14 +167,41 @@ fn by_ack(v: &Values, count: u32, due: bool, synced: ExecutionCycle, telegram: T
 }
 
 // In waitfirst and up.
-fn exchange(v: &Values, count: u32, due: bool, last: SequenceNumber, synced: ExecutionCycle, telegram: Telegram<'_>) -> FetchWay
+fn exchange(
+    v: &Values,
+    count: u32,
+    due: bool,
+    last: SequenceNumber,
+    synced: ExecutionCycle,
+    telegram: Telegram<'_>,
+) -> FetchWay
     ensures { λ r. ⌜ r ≡ exchange-way (now (v .entry)) count due last synced (telegram-value (telegram .entry)) (content-value (telegram .entry .content)) ⌝ }
 {
     match telegram.content {
-        Content::EcStart { .. } => by_number(v, last, telegram.sn, FetchWay::Releases(Reason::Malformed)),
-        Content::Am(_) => by_number(v, last, telegram.sn, by_age(v, count, synced, Exchange::Am, telegram)),
-        Content::AmReq(_) => by_number(v, last, telegram.sn, by_age(v, count, synced, Exchange::Req, telegram)),
-        Content::AmAck(_) => by_number(v, last, telegram.sn, by_ack(v, count, due, synced, telegram)),
+        Content::EcStart { .. } => by_number(
+            v,
+            last,
+            telegram.sn,
+            FetchWay::Releases(Reason::Malformed),
+        ),
+        Content::Am(_) => by_number(
+            v,
+            last,
+            telegram.sn,
+            by_age(v, count, synced, Exchange::Am, telegram),
+        ),
+        Content::AmReq(_) => by_number(
+            v,
+            last,
+            telegram.sn,
+            by_age(v, count, synced, Exchange::Req, telegram),
+        ),
+        Content::AmAck(_) => by_number(
+            v,
+            last,
+            telegram.sn,
+            by_ack(v, count, due, synced, telegram),
+        ),
         Content::Other { type_byte, .. } => by_stray(
             type_byte,
             by_number(v, last, telegram.sn, FetchWay::Releases(Reason::Malformed)),
@@ -171,7 +226,10 @@ fn starting(v: &Values, telegram: Telegram<'_>) -> FetchWay
                 }
             }
         }
-        Content::Other { type_byte, .. } => by_stray(type_byte, FetchWay::Releases(Reason::Malformed)),
+        Content::Other { type_byte, .. } => by_stray(
+            type_byte,
+            FetchWay::Releases(Reason::Malformed),
+        ),
         _ => FetchWay::Releases(Reason::Malformed),
     }
 }
@@ -183,7 +241,14 @@ fn by_telegram(v: &Values, count: u32, state: State, telegram: Telegram<'_>) -> 
     match state {
         State::WaitEc { .. } => starting(v, telegram),
         State::WaitFirst { last, synced, .. } => exchange(v, count, false, last, synced, telegram),
-        State::Up { last, synced, .. } => exchange(v, count, v.ask.0 <= count, last, synced, telegram),
+        State::Up { last, synced, .. } => exchange(
+            v,
+            count,
+            v.ask.0 <= count,
+            last,
+            synced,
+            telegram,
+        ),
         _ => FetchWay::Drops,
     }
 }
@@ -199,7 +264,14 @@ fn is_under(word: SafetyWord, s: &[u8]) -> bool
 }
 
 // A data frame: dropped unless its code is right under the word.
-fn by_data(v: &Values, count: u32, state: State, word: SafetyWord, s: &[u8], telegram: &[u8]) -> FetchWay
+fn by_data(
+    v: &Values,
+    count: u32,
+    state: State,
+    word: SafetyWord,
+    s: &[u8],
+    telegram: &[u8],
+) -> FetchWay
     ensures { λ r. ⌜ r ≡ data-way (now (v .entry)) count state word (now (s .entry)) (now (telegram .entry)) ⌝ }
 {
     if !is_under(word, s) {
@@ -224,9 +296,13 @@ fn by_frame(v: &Values, count: u32, state: State, s: &[u8], frame: Frame<'_>) ->
         (_, Frame::Di { codes, .. }) => FetchWay::LeftByFar(codes),
         (State::Listen { .. }, Frame::Au1 { rb }) => FetchWay::AnswersAu1 { rb },
         (State::Listen { .. }, _) => FetchWay::Drops,
-        (State::WaitAu2 { rb, .. }, Frame::Au2 { ra_xor_rb }) => FetchWay::AnswersAu2 { ra: ra_xor_rb ^ rb },
+        (State::WaitAu2 { rb, .. }, Frame::Au2 { ra_xor_rb }) => FetchWay::AnswersAu2 {
+            ra: ra_xor_rb ^ rb,
+        },
         (State::WaitAu2 { .. }, _) => FetchWay::Releases(Reason::NotAu2),
-        (State::WaitAu3 { ra, .. }, Frame::Au3 { ra_xor_rc }) => FetchWay::AnswersAu3 { rc: ra_xor_rc ^ ra },
+        (State::WaitAu3 { ra, .. }, Frame::Au3 { ra_xor_rc }) => FetchWay::AnswersAu3 {
+            rc: ra_xor_rc ^ ra,
+        },
         (State::WaitAu3 { .. }, _) => FetchWay::Releases(Reason::NotAu3),
         (State::WaitAr { rb, .. }, Frame::Ar { rb: echoed }) => {
             if echoed == rb {
@@ -236,9 +312,30 @@ fn by_frame(v: &Values, count: u32, state: State, s: &[u8], frame: Frame<'_>) ->
             }
         }
         (State::WaitAr { .. }, _) => FetchWay::Releases(Reason::NotAr),
-        (State::WaitEc { words }, Frame::Dt { telegram, .. }) => by_data(v, count, state, words.read, s, telegram),
-        (State::WaitFirst { words, .. }, Frame::Dt { telegram, .. }) => by_data(v, count, state, words.read, s, telegram),
-        (State::Up { words, .. }, Frame::Dt { telegram, .. }) => by_data(v, count, state, words.read, s, telegram),
+        (State::WaitEc { words }, Frame::Dt { telegram, .. }) => by_data(
+            v,
+            count,
+            state,
+            words.read,
+            s,
+            telegram,
+        ),
+        (State::WaitFirst { words, .. }, Frame::Dt { telegram, .. }) => by_data(
+            v,
+            count,
+            state,
+            words.read,
+            s,
+            telegram,
+        ),
+        (State::Up { words, .. }, Frame::Dt { telegram, .. }) => by_data(
+            v,
+            count,
+            state,
+            words.read,
+            s,
+            telegram,
+        ),
         _ => FetchWay::Releases(Reason::UnexpectedFrame),
     }
 }

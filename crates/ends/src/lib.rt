@@ -6,6 +6,7 @@ mod effects;
 pub mod end;
 mod frames;
 mod judging;
+pub mod opening;
 pub mod reason;
 pub mod session;
 pub mod state;

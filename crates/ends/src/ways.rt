@@ -15,9 +15,7 @@ pub enum TickWay {
     // EC and count rise, nothing is put
     Silent,
     // EC and count rise, and AM goes out, or AM+REQ
-    Sends {
-        asks: bool,
-    },
+    Sends { asks: bool },
 }
 
 // The telegrams of the data exchange.

@@ -157,6 +157,7 @@ module _ (n n′ r r′ : Meaning) (at : Role) (same : Type 0) (unasked : same �
   fetched most last last′ buf buf′ t em el room h₀ =
       let m : ℕ = pair-largest (n .largest) (r .largest) in
       let h : AskedBoth same ask-n ask-r m last′ buf buf′ t =
-      subst (λ (x : Option TransportNumber). AskedBoth same ask-n ask-r m x buf buf′ t) el (subst (λ (x : ℕ). AskedBoth same ask-n ask-r x last buf buf′ t) em h₀) in
-      (pair-fetch n n′ r r′ at buf buf′ room t (both-sound n n′ r r′ at same unasked ask-n ask-r (λ b a b′ x. x .0) (λ b a b′ x. x .0) m last′ buf buf′ t h),
-      both-as same ask-n does-n ask-r does-r (λ b a b′ x. x .1) (λ b a b′ x. x .1) m last′ buf buf′ t h)
+      subst (λ (x : Option TransportNumber). AskedBoth same ask-n ask-r m x buf buf′ t) el (subst (λ (x : ℕ). AskedBoth same ask-n ask-r x last buf buf′ t) em h₀) in (
+        pair-fetch n n′ r r′ at buf buf′ room t (both-sound n n′ r r′ at same unasked ask-n ask-r (λ b a b′ x. x .0) (λ b a b′ x. x .0) m last′ buf buf′ t h),
+        both-as same ask-n does-n ask-r does-r (λ b a b′ x. x .1) (λ b a b′ x. x .1) m last′ buf buf′ t h,
+      )

@@ -51,19 +51,20 @@ joins : {a b s t : List ℕ} → a ≡ b → s ≡ t → a ++ (32 ∷ s) ≡ b +
 joins {b = b} {s = s} e r = ap (λ l. l ++ (32 ∷ s)) e ∙ ap (λ l. b ++ (32 ∷ l)) r
 
 identifiers-were : (role : Role) (line : List ℕ) (i : Identifiers) → read-identifiers role line ≡ Ok i
-  → (decimal (role-number role) ≡ value-at 0 line) × (identifiers-text i ≡ value-at 1 line ++ (32 ∷ (value-at 2 line ++ (32 ∷ (value-at 3 line ++ (32 ∷ value-at 4 line))))))
+    → (decimal (role-number role) ≡ value-at 0 line) × (identifiers-text i ≡ value-at 1 line ++ (32 ∷ (value-at 2 line ++ (32 ∷ (value-at 3 line ++ (32 ∷ value-at 4 line))))))
 identifiers-were role line i e =
     let r = then-parts (number-in (role-column role) line) _ i e in
     let a = then-parts (hex-in 2 line) _ i (r .2) in
     let b = then-parts (hex-in 3 line) _ i (a .2) in
     let c = then-parts (hex-in 4 line) _ i (b .2) in
-    let d = then-parts (hex-in 5 line) _ i (c .2) in
-    (role-was role line (r .0) (r .1),
-     ap identifiers-text (sym (ok-same (d .2)))
-     ∙ joins (hex-was 2 line (a .0) (a .1)) (joins (hex-was 3 line (b .0) (b .1)) (joins (hex-was 4 line (c .0) (c .1)) (hex-was 5 line (d .0) (d .1)))))
+    let d = then-parts (hex-in 5 line) _ i (c .2) in (
+      role-was role line (r .0) (r .1),
+      ap identifiers-text (sym (ok-same (d .2)))
+          ∙ joins (hex-was 2 line (a .0) (a .1)) (joins (hex-was 3 line (b .0) (b .1)) (joins (hex-was 4 line (c .0) (c .1)) (hex-was 5 line (d .0) (d .1)))),
+    )
 
 ages-were : (line : List ℕ) (x : Ages) → read-ages line ≡ Ok x
-  → ages-text x ≡ value-at 5 line ++ (32 ∷ (value-at 6 line ++ (32 ∷ (value-at 7 line ++ (32 ∷ (value-at 8 line ++ (32 ∷ value-at 9 line)))))))
+    → ages-text x ≡ value-at 5 line ++ (32 ∷ (value-at 6 line ++ (32 ∷ (value-at 7 line ++ (32 ∷ (value-at 8 line ++ (32 ∷ value-at 9 line)))))))
 ages-were line x e =
     let a = then-parts (number-in versions line) _ x e in
     let b = then-parts (number-in periods line) _ x (a .2) in
@@ -76,7 +77,7 @@ ages-were line x e =
     (number-was mmaxs line (f .0) (omega arith) (f .1)))))
 
 limits-were : (line : List ℕ) (x : Limits) → read-limits line ≡ Ok x
-  → limits-text x ≡ value-at 10 line ++ (32 ∷ (value-at 11 line ++ (32 ∷ (value-at 12 line ++ (32 ∷ (value-at 13 line ++ (32 ∷ value-at 14 line)))))))
+    → limits-text x ≡ value-at 10 line ++ (32 ∷ (value-at 11 line ++ (32 ∷ (value-at 12 line ++ (32 ∷ (value-at 13 line ++ (32 ∷ value-at 14 line)))))))
 limits-were line x e =
     let a = then-parts (number-in asks line) _ x e in
     let b = then-parts (number-in waits line) _ x (a .2) in

@@ -39,13 +39,13 @@ module _ (role : Role) (line : List ℕ) where
 
   -- one column after those before it
   step : {T U : Type 0} (n m : ℕ) (r : Result T Fault) (f : T → Result U LineFault) → 1 ≤ n → judged role line n ≡ verdict r → GoodBefore role line n
-    → ((x : T) → GoodBefore role line (n + 1) → Firsts m (f x)) → Firsts m (then (at-column r n) f)
+      → ((x : T) → GoodBefore role line (n + 1) → Firsts m (f x)) → Firsts m (then (at-column r n) f)
   step n m (Ok x) f low j g next = next x (more n g j)
   step n m (Err e) f low j g next = record { earlier = g; here = λ _. j; whole = λ z. absurd (omega arith) }
 
   -- one group of columns after those before it
   pub steps : {T U : Type 0} (n m : ℕ) (r : Result T LineFault) (f : T → Result U LineFault) → Firsts n r
-    → ((x : T) → r ≡ Ok x → GoodBefore role line n → Firsts m (f x)) → Firsts m (then r f)
+      → ((x : T) → r ≡ Ok x → GoodBefore role line n → Firsts m (f x)) → Firsts m (then r f)
   steps n m (Ok x) f h next = next x refl h
   steps n m (Err e) f h next = h
 
@@ -69,7 +69,7 @@ module _ (role : Role) (line : List ℕ) where
       step 15 16 (read-number (ecs .range) (text-in 15 line)) _ (omega arith) refl g (λ e g. g)))))
 
   hexes-first : {T : Type 0} (f : ℕ → ℕ → ℕ → ℕ → Result T LineFault) → ((a b c d : ℕ) → GoodBefore role line 6 → Firsts 6 (f a b c d)) → GoodBefore role line 2
-    → Firsts 6 (then (hex-in 2 line) (λ a. then (hex-in 3 line) (λ b. then (hex-in 4 line) (λ c. then (hex-in 5 line) (λ d. f a b c d)))))
+      → Firsts 6 (then (hex-in 2 line) (λ a. then (hex-in 3 line) (λ b. then (hex-in 4 line) (λ c. then (hex-in 5 line) (λ d. f a b c d)))))
   hexes-first f next g =
       step 2 6 (read-hex (text-in 2 line)) _ (omega arith) refl g (λ a g.
       step 3 6 (read-hex (text-in 3 line)) _ (omega arith) refl g (λ b g.

@@ -67,10 +67,34 @@ frees : (c : ℕ) → c < 45 → (p : Params) → Frees c (pieces (p .values))
 frees c low p =
     let v = p .values in
     let n = n-free c low Initiator p in
-    let h = h-free c low Initiator p in
-    (h (v .own .first), (h (v .own .second), (h (v .far .first), (h (v .far .second),
-    (n (v .version) (omega arith), (n (v .period .0) (omega arith), (n (v .window) (omega arith), (mmin-free c low Initiator p, (n (v .mmax) (omega arith),
-    (n (v .ask .0) (omega arith), (n (v .wait .0) (omega arith), (n (v .setup .0) (omega arith), (n (v .longest) (omega arith), (n (v .ec .0) (omega arith), tt))))))))))))))
+    let h = h-free c low Initiator p in (
+      h (v .own .first),
+      (
+        h (v .own .second),
+        (
+          h (v .far .first),
+          (
+            h (v .far .second),
+            (
+              n (v .version) (omega arith),
+              (
+                n (v .period .0) (omega arith),
+                (
+                  n (v .window) (omega arith),
+                  (
+                    mmin-free c low Initiator p,
+                    (
+                      n (v .mmax) (omega arith),
+                      (n (v .ask .0) (omega arith), (n (v .wait .0) (omega arith), (n (v .setup .0) (omega arith), (n (v .longest) (omega arith), (n (v .ec .0) (omega arith), tt))))),
+                    ),
+                  ),
+                ),
+              ),
+            ),
+          ),
+        ),
+      ),
+    )
 
 -- no line feed stands in a line
 pub line-free : (role : Role) (p : Params) → count-of 10 (line-text role (p .values)) ≡ 0
@@ -123,15 +147,15 @@ line-reads role p =
     let at = value-is role p in
     let count : count-of 32 line ≡ 14 = ap (count-of 32) (line-spaced role v) ∙ count-spaced (decimal (role-number role)) (pieces v) (role-free 32 (omega arith) role p) (frees 32 (omega arith) p) in
     let ids : read-identifiers role line ≡ Ok record { own = v .own; far = v .far } =
-      then-at _ (role-at role line (at 0 (omega arith)))
-      ∙ then-at _ (hex-at 2 line (v .own .first) (at 1 (omega arith)) (p .halves1 .0)) ∙ then-at _ (hex-at 3 line (v .own .second) (at 2 (omega arith)) (p .halves2 .0))
-      ∙ then-at _ (hex-at 4 line (v .far .first) (at 3 (omega arith)) (p .halves1 .1)) ∙ then-at _ (hex-at 5 line (v .far .second) (at 4 (omega arith)) (p .halves2 .1)) in
+    then-at _ (role-at role line (at 0 (omega arith)))
+    ∙ then-at _ (hex-at 2 line (v .own .first) (at 1 (omega arith)) (p .halves1 .0)) ∙ then-at _ (hex-at 3 line (v .own .second) (at 2 (omega arith)) (p .halves2 .0))
+    ∙ then-at _ (hex-at 4 line (v .far .first) (at 3 (omega arith)) (p .halves1 .1)) ∙ then-at _ (hex-at 5 line (v .far .second) (at 4 (omega arith)) (p .halves2 .1)) in
     let ages : read-ages line ≡ Ok record { version = v .version; period = v .period; window = v .window; mmin = v .mmin; mmax = v .mmax } =
-      then-at _ (number-at versions line (v .version) (at 5 (omega arith)) (omega arith) (p .version)) ∙ then-at _ (number-at periods line (v .period .0) (at 6 (omega arith)) (omega arith) (p .period))
-      ∙ then-at _ (number-at windows line (v .window) (at 7 (omega arith)) (omega arith) (p .window)) ∙ then-at _ (below-at line (v .mmin) (at 8 (omega arith)) (p .mmin))
-      ∙ then-at _ (number-at mmaxs line (v .mmax) (at 9 (omega arith)) (omega arith) (p .mmax)) in
+    then-at _ (number-at versions line (v .version) (at 5 (omega arith)) (omega arith) (p .version)) ∙ then-at _ (number-at periods line (v .period .0) (at 6 (omega arith)) (omega arith) (p .period))
+    ∙ then-at _ (number-at windows line (v .window) (at 7 (omega arith)) (omega arith) (p .window)) ∙ then-at _ (below-at line (v .mmin) (at 8 (omega arith)) (p .mmin))
+    ∙ then-at _ (number-at mmaxs line (v .mmax) (at 9 (omega arith)) (omega arith) (p .mmax)) in
     let limits : read-limits line ≡ Ok record { ask = v .ask; wait = v .wait; setup = v .setup; longest = v .longest; ec = v .ec } =
-      then-at _ (number-at asks line (v .ask .0) (at 10 (omega arith)) (omega arith) (p .ask)) ∙ then-at _ (number-at waits line (v .wait .0) (at 11 (omega arith)) (omega arith) (p .wait))
-      ∙ then-at _ (number-at setups line (v .setup .0) (at 12 (omega arith)) (omega arith) (p .setup)) ∙ then-at _ (number-at datas line (v .longest) (at 13 (omega arith)) (omega arith) (p .longest))
-      ∙ then-at _ (number-at ecs line (v .ec .0) (at 14 (omega arith)) (omega arith) (p .ec)) in
+    then-at _ (number-at asks line (v .ask .0) (at 10 (omega arith)) (omega arith) (p .ask)) ∙ then-at _ (number-at waits line (v .wait .0) (at 11 (omega arith)) (omega arith) (p .wait))
+    ∙ then-at _ (number-at setups line (v .setup .0) (at 12 (omega arith)) (omega arith) (p .setup)) ∙ then-at _ (number-at datas line (v .longest) (at 13 (omega arith)) (omega arith) (p .longest))
+    ∙ then-at _ (number-at ecs line (v .ec .0) (at 14 (omega arith)) (omega arith) (p .ec)) in
     cond-true _ _ _ (eq-eqb _ _ count) ∙ then-at _ ids ∙ then-at _ ages ∙ then-at _ limits ∙ checks p

@@ -71,7 +71,7 @@ module _ (cs : List Said) (line : ℕ) (rest text : List ℕ) (r : Reading cs li
     pub reading-more : (c : Said) → read-call line rest ≡ Ok c → Reading (cs ++ c ∷ []) (line + 1) (after 10 rest) text
     reading-more c is = (
       sym (ahead-more cs c (read-calls (802 - (line + 1)) (line + 1) (after 10 rest)))
-      ∙ ap (ahead cs) (sym (ap (λ k. read-calls k line rest) one-more ∙ calls-step (802 - (line + 1)) line rest c some is)) ∙ r .0,
+          ∙ ap (ahead cs) (sym (ap (λ k. read-calls k line rest) one-more ∙ calls-step (802 - (line + 1)) line rest c some is)) ∙ r .0,
       inr (first-good (ap isOk is)),
     )
 

@@ -52,7 +52,7 @@ mmin-kept line z e = below-kept z (below-kept-in (mmins .range) (text-in 9 line)
 
 -- only the differing bits are left to check
 only-bits : (line : List ℕ) (i : Identifiers) (x : Ages) (l : Limits) → read-ages line ≡ Ok x → read-limits line ≡ Ok l
-  → checked (gathered i x l) ≡ then (apart (i .own .first) (i .far .first)) (λ _. then (apart (i .own .second) (i .far .second)) (λ _. Ok (gathered i x l)))
+    → checked (gathered i x l) ≡ then (apart (i .own .first) (i .far .first)) (λ _. then (apart (i .own .second) (i .far .second)) (λ _. Ok (gathered i x l)))
 only-bits line i x l ea el =
     let a = then-parts (number-in versions line) _ x ea in
     let b = then-parts (number-in periods line) _ x (a .2) in
@@ -76,16 +76,16 @@ only-bits line i x l ea el =
     ∙ then-at _ (number-kept ecs line (m .0) (m .1))))
 
 bits-by : (role : Role) (line : List ℕ) (b : Bool) (f : Unit {0} → Result Values LineFault) → GoodBefore role line 16 → (GoodBefore role line 16 → Firsts role line 16 (f tt))
-  → Firsts role line 16 (then (cond b (Ok tt) (Err (whole-line DifferingBits))) f)
+    → Firsts role line 16 (then (cond b (Ok tt) (Err (whole-line DifferingBits))) f)
 bits-by role line true f g next = next g
 bits-by role line false f g next = record { earlier = λ k low high. absurd (omega arith); here = λ z. absurd (omega arith); whole = λ _. inr (refl, g) }
 
 bits-first : (role : Role) (line : List ℕ) (own far : ℕ) (f : Unit {0} → Result Values LineFault) → GoodBefore role line 16 → (GoodBefore role line 16 → Firsts role line 16 (f tt))
-  → Firsts role line 16 (then (apart own far) f)
+    → Firsts role line 16 (then (apart own far) f)
 bits-first role line own far f g next = bits-by role line (within differing (distance own far)) f g next
 
 counted-first : (role : Role) (line : List ℕ) (b : Bool) (r : Result Values LineFault) → eqb (count-of 32 line) 14 ≡ b → Firsts role line 16 r
-  → Firsts role line 16 (cond b r (Err (whole-line WrongCount)))
+    → Firsts role line 16 (cond b r (Err (whole-line WrongCount)))
 counted-first role line true r e h = h
 counted-first role line false r e h = record { earlier = λ k low high. absurd (omega arith); here = λ z. absurd (omega arith); whole = λ _. inl (refl, eqb-false _ _ e) }
 
@@ -121,7 +121,7 @@ abbrev named-by : Bool → Bool → Result (Unit {0}) LineFault
 named-by b c = cond b (Err (whole-line NamesDiffer)) (cond c (Ok tt) (Err (whole-line NamesDiffer)))
 
 end-law : (role : Role) (n : ℕ) (t : List ℕ) (b : Bool) (r : Result Values FileFault) → eqb (count-of 10 t) 0 ≡ b → RowLaw role n t r
-  → RowLaw role n t (then (on-line (ended-by b) Sheet n) (λ _. r))
+    → RowLaw role n t (then (on-line (ended-by b) Sheet n) (λ _. r))
 end-law role n t true r e h = (refl, refl, inl (refl, refl, eqb-true _ _ e))
 end-law role n t false r e h = h
 
@@ -151,32 +151,32 @@ SheetLaw text (Err f) = FirstFault text f
 
 -- a fault of line 2 or 3 of a sheet
 row-first : (text : List ℕ) (n : ℕ) (role : Role) (f : FileFault) → (2 ≤ suc n) × (suc n ≤ 3) → role ≡ role-of (suc n) → Goods n (good-lines text)
-  → RowFault role (suc n) (from-line (suc n) text) f → FirstFault text f
+    → RowFault role (suc n) (from-line (suc n) text) f → FirstFault text f
 row-first text n role f low r g h = record {
-      file = h .0;
-      earlier = earlier-lines text n (f .line) (h .1) g;
-      here = ⊎-elim
-        (λ u. not-ended (subst (λ m. (2 ≤ m) × (m ≤ 3)) (sym (h .1)) low) (u .0) (u .1) (subst (λ m. count-of 10 (from-line m text) ≡ 0) (sym (h .1)) (u .2)))
-        (λ l. in-line (subst (λ m. (2 ≤ m) × (m ≤ 3)) (sym (h .1)) low)
-          (subst (λ m. FirstInLine (role-of m) (before 10 (from-line m text)) record { fault = f .fault; column = f .column }) (sym (h .1))
-          (subst (λ q. FirstInLine q (before 10 (from-line (suc n) text)) record { fault = f .fault; column = f .column }) r l)))
-        (h .2);
-    }
+  file = h .0;
+  earlier = earlier-lines text n (f .line) (h .1) g;
+  here = ⊎-elim
+      (λ u. not-ended (subst (λ m. (2 ≤ m) × (m ≤ 3)) (sym (h .1)) low) (u .0) (u .1) (subst (λ m. count-of 10 (from-line m text) ≡ 0) (sym (h .1)) (u .2)))
+      (λ l. in-line (subst (λ m. (2 ≤ m) × (m ≤ 3)) (sym (h .1)) low)
+      (subst (λ m. FirstInLine (role-of m) (before 10 (from-line m text)) record { fault = f .fault; column = f .column }) (sym (h .1))
+      (subst (λ q. FirstInLine q (before 10 (from-line (suc n) text)) record { fault = f .fault; column = f .column }) r l)))
+      (h .2);
+}
 
 row-step : (text : List ℕ) (n : ℕ) (role : Role) (r : Result Values FileFault) (f : Values → Result (Values × Values) FileFault)
-  → (2 ≤ suc n) × (suc n ≤ 3) → role ≡ role-of (suc n) → Goods n (good-lines text) → RowLaw role (suc n) (from-line (suc n) text) r
-  → ((v : Values) → isOk r ≡ true → SheetLaw text (f v)) → SheetLaw text (then r f)
+    → (2 ≤ suc n) × (suc n ≤ 3) → role ≡ role-of (suc n) → Goods n (good-lines text) → RowLaw role (suc n) (from-line (suc n) text) r
+    → ((v : Values) → isOk r ≡ true → SheetLaw text (f v)) → SheetLaw text (then r f)
 row-step text n role (Ok v) f low e g h next = next v refl
 row-step text n role (Err w) f low e g h next = row-first text n role w low e g h
 
 more-step : (text : List ℕ) (x : Values × Values) (b : Bool) → eqb (length (from-line 4 text)) 0 ≡ b → Goods 3 (good-lines text)
-  → SheetLaw text (cond b (Ok x) (on-line (Err (whole-line WrongCount)) Sheet 4))
+    → SheetLaw text (cond b (Ok x) (on-line (Err (whole-line WrongCount)) Sheet 4))
 more-step text x true e g = tt
 more-step text x false e g = record { file = refl; earlier = earlier-lines text 3 4 refl g; here = one-more refl refl refl (eqb-false _ _ e) }
 
 names-step : (text : List ℕ) (b c : Bool) (r : Result (Values × Values) FileFault)
-  → (isOk (named-by b c) ≡ true → SheetLaw text r)
-  → SheetLaw text (then (on-line (named-by b c) Sheet 1) (λ _. r))
+    → (isOk (named-by b c) ≡ true → SheetLaw text r)
+    → SheetLaw text (then (on-line (named-by b c) Sheet 1) (λ _. r))
 names-step text true c r h = record { file = refl; earlier = earlier-lines text 0 1 refl tt; here = not-names refl refl refl }
 names-step text false true r h = h refl
 names-step text false false r h = record { file = refl; earlier = earlier-lines text 0 1 refl tt; here = not-names refl refl refl }

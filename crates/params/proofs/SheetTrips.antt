@@ -70,7 +70,7 @@ sheet-back text x e =
     let b = then-parts (read-row Responder 3 (after 10 t)) _ x (a .2) in
     let m = more-parts (a .0, b .0) x (after 10 (after 10 t)) (b .2) in
     let last : line-text Responder (b .0) ++ (10 ∷ []) ≡ after 10 t =
-      ap (λ s. line-text Responder (b .0) ++ 10 ∷ s) (sym (m .0)) ∙ row-back Responder 3 (after 10 t) (b .0) (b .1) in
+    ap (λ s. line-text Responder (b .0) ++ 10 ∷ s) (sym (m .0)) ∙ row-back Responder 3 (after 10 t) (b .0) (b .1) in
     ap sheet-text (sym (m .1))
     ∙ ap (λ s. names ++ (10 ∷ (line-text Initiator (a .0) ++ (10 ∷ s)))) last
     ∙ ap (λ s. names ++ (10 ∷ s)) (row-back Initiator 2 t (a .0) (a .1))

@@ -59,9 +59,19 @@ read-limits line =
 -- the values of a line, in the order of Values
 abbrev pub gathered : Identifiers → Ages → Limits → Values
 gathered i a l = record {
-      own = i .own; far = i .far; version = a .version; period = a .period; window = a .window; mmin = a .mmin; mmax = a .mmax;
-      ask = l .ask; wait = l .wait; setup = l .setup; longest = l .longest; ec = l .ec;
-    }
+  own = i .own;
+  far = i .far;
+  version = a .version;
+  period = a .period;
+  window = a .window;
+  mmin = a .mmin;
+  mmax = a .mmax;
+  ask = l .ask;
+  wait = l .wait;
+  setup = l .setup;
+  longest = l .longest;
+  ec = l .ec;
+}
 
 -- a line has fifteen values, so fourteen spaces; then come the values in order; then the differing bits
 abbrev pub read-line : Role → List ℕ → Result Values LineFault

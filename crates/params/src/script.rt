@@ -29,6 +29,7 @@ use texts::words::is_word;
 use texts::words::same;
 
 const NAMES: &str = "end do text";
+
 const COLUMNS: usize = 3;
 // the longest text of a tick, in bytes
 const LONGEST: usize = 64;

@@ -40,12 +40,15 @@ returns g c =
           (pair-put n n′ r r′ from (packet-bytes q Normal) (packet-bytes q Redundant) s le
           (frame-own _ (packet-bytes q Normal) q (own q Normal fits short)) (frame-own _ (packet-bytes q Redundant) q (own q Redundant fits short))
           (c .put-packet-first .result) (c .put-packet-second .result) (c .put-packet-first .ensures .rules) (c .put-packet-second .ensures .rules));
-      exact = (le, record {
-        first = c .put-packet-first .result;
-        second = c .put-packet-second .result;
-        normal = subst (λ (x : ℕ). g .N·Carrier .putting (p .normal) from (packet-bytes (record { number = x; frame = s }) Normal) (c .put-packet-first .result) (c .put-packet-first .last .carrier)) (c .advance-number .ensures .value) (c .put-packet-first .ensures .exact);
-        redundant = subst (λ (x : ℕ). g .R·Carrier .putting (p .redundant) from (packet-bytes (record { number = x; frame = s }) Redundant) (c .put-packet-second .result) (c .put-packet-second .last .carrier)) (c .advance-number .ensures .value) (c .put-packet-second .ensures .exact);
-        either = c .either .ensures;
-        counters = c .advance-number .ensures .after;
-      });
+      exact = (
+        le,
+        record {
+          first = c .put-packet-first .result;
+          second = c .put-packet-second .result;
+          normal = subst (λ (x : ℕ). g .N·Carrier .putting (p .normal) from (packet-bytes (record { number = x; frame = s }) Normal) (c .put-packet-first .result) (c .put-packet-first .last .carrier)) (c .advance-number .ensures .value) (c .put-packet-first .ensures .exact);
+          redundant = subst (λ (x : ℕ). g .R·Carrier .putting (p .redundant) from (packet-bytes (record { number = x; frame = s }) Redundant) (c .put-packet-second .result) (c .put-packet-second .last .carrier)) (c .advance-number .ensures .value) (c .put-packet-second .ensures .exact);
+          either = c .either .ensures;
+          counters = c .advance-number .ensures .after;
+        },
+      );
     }

@@ -29,7 +29,7 @@ returns-in-Break-call c =
 pub loop-line-again : need.loop-line-again
 loop-line-again c =
     let more = reading-more (all-said (c .loop-line .calls)) (c .loop-line .line) (c .loop-line .rest .now) (c .args .text .now) (c .loop-line .inv)
-      (c .loop-line-test .taken) (eqb-false _ _ (sym (c .if-is-empty .ensures tt))) (said (c .in-Continue-call .call)) (c .in-Continue-call .ensures tt) in
+    (c .loop-line-test .taken) (eqb-false _ _ (sym (c .if-is-empty .ensures tt))) (said (c .in-Continue-call .call)) (c .in-Continue-call .ensures tt) in
     let e : all-said (c .push .last .self) ≡ all-said (c .loop-line .calls) ++ said (c .in-Continue-call .call) ∷ [] = ap (map said) (c .in-Continue-push .ensures tt .items) ∙ map-push said (vec-items (c .loop-line .calls)) (c .in-Continue-call .call) in
     rw (e, c .cut .ensures .back) more
 
