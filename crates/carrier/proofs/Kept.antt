@@ -1,6 +1,5 @@
 -- What a store does keeps the rules of a carrier.
 use Prim.Native.Nat.{ℕ, zero, suc, _+_, _-_, _≤_, _<_}
-use Rattle.carrier.specs.Faults.{place-of}
 use mathlib.Core.Path.{_≡_, refl, sym, ap, subst, _∙_}
 use mathlib.Core.Bool.{Bool, true, false, cond}
 use mathlib.Core.Logic.{_⊎_, inl, inr, ⊎-elim}
@@ -24,7 +23,7 @@ use Rattle.carrier.specs.Rules.{Strings, Meaning, greatest-length, NoGain, Put
 use Rattle.carrier.proofs.Sides.{both, no-gain-same, mem-getD}
 use Rattle.carrier.specs.declared.store.Store.{Store}
 use Rattle.carrier.specs.Packing.{Short, laid-out}
-use Rattle.carrier.specs.Wires.{wire-meaning, strings-at, memory-at, room-at, fits, put-answer, put-strings, WirePut, oldest, fetch-answer, fetch-strings, fetch-buffer, WireFetch}
+use Rattle.carrier.specs.Wires.{wire-meaning, strings-at, memory-at, room-at, fits, put-answer, put-strings, WirePut, place-of, fetch-answer, fetch-strings, fetch-buffer, WireFetch}
 
 abbrev means : (Role → Strings) → Meaning
 means f = record { largest = greatest-length; strings = f }
@@ -100,14 +99,6 @@ pub fetch-rules : (before after : Store) (at : Role) (chosen : Option ℕ) (stay
     → WireFetch before after at chosen stays buf buf′ r → FetchRules (wire-meaning before) (wire-meaning after) at buf buf′ r
 fetch-rules before after at chosen stays buf buf′ r in′ p =
     fetch-by (strings-at before) (strings-at after) at buf buf′ r stays (leb greatest-length (length buf)) chosen refl (short before at) in′ (p .answer) (p .near) (p .across) (p .written)
-
-pub oldest-within : (ss : Strings) (k : ℕ) → oldest ss ≡ Some k → k < length ss
-oldest-within [] k e = let z : _≡_ {A = ℕ} 0 1 = cc in absurd (omega arith)
-oldest-within (s ∷ ss) k e = let z : k ≡ 0 = cc in omega arith
-
-pub oldest-some : (ss : Strings) → (length ss ≡ 0 → ⊥) → oldest ss ≡ Some 0
-oldest-some [] n = absurd (n refl)
-oldest-some (s ∷ ss) n = refl
 
 pub handed : (before after : Store) (at : Role) (k : ℕ) (stays : Bool) (buf buf′ : List ℕ) (n : ℕ) → greatest-length ≤ length buf
     → n ≡ length (getD (strings-at before at) k []) → buf′ ≡ getD (strings-at before at) k [] ++ drop n buf

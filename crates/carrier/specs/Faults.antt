@@ -1,5 +1,5 @@
 -- How a fault wire chooses what comes out.
-use Prim.Native.Nat.{ℕ, _-_}
+use Prim.Native.Nat.{ℕ}
 use mathlib.Core.Path.{_≡_}
 use mathlib.Core.Bool.{Bool, true, false, cond}
 use mathlib.Core.List.{List, [], _∷_}
@@ -15,7 +15,7 @@ use Rattle.carrier.specs.declared.Keeping.{Keeping}
 use Rattle.carrier.specs.declared.fault.Choice.{Choice}
 use Rattle.carrier.specs.declared.fault.FaultWire.{FaultWire}
 use Rattle.carrier.specs.Rules.{Strings, greatest-length}
-use Rattle.carrier.specs.Wires.{strings-at, WirePut, WireFetch}
+use Rattle.carrier.specs.Wires.{strings-at, place-of, WirePut, WireFetch}
 
 -- the choices that are not used up
 abbrev pub to-come : FaultWire → List Choice
@@ -25,10 +25,6 @@ to-come w = drop (w .next) (vec-items (w .choices))
 abbrev pub chosen-next : List Choice → Choice
 chosen-next [] = record { number = 1; stays = false }
 chosen-next (c ∷ cs) = c
-
--- the place of the string that a number names, 1 being the oldest; none for 0 or a number too large
-abbrev pub place-of : Strings → ℕ → Option ℕ
-place-of ss n = cond (leb 1 n) (cond (leb n (length ss)) (Some (n - 1)) None) None
 
 -- a put on a fault wire: it keeps strings as any wire does, and uses up no choice
 pub record FaultPut (before after : FaultWire) (from : Role) (s : List ℕ) (r : Result Keeping Refusal) : Type 0 where

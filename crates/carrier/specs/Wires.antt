@@ -1,5 +1,5 @@
 -- What the wires keep and hand out, as equations on the strings and the memory that they hold.
-use Prim.Native.Nat.{ℕ, _+_}
+use Prim.Native.Nat.{ℕ, _+_, _-_}
 use mathlib.Core.Path.{_≡_}
 use mathlib.Core.Bool.{Bool, true, false, cond}
 use mathlib.Core.List.{List, [], _∷_, _++_}
@@ -73,10 +73,9 @@ pub record WirePut (before after : Store) (from : Role) (s : List ℕ) (r : Resu
   pub near-memory : memory-at after from ≡ memory-at before from
   pub rooms : (side : Role) → room-at after side ≡ room-at before side
 
--- the oldest string's place, if there is one
-abbrev pub oldest : Strings → Option ℕ
-oldest [] = None
-oldest (s ∷ ss) = Some 0
+-- the place of the string that a number names: 1 names the oldest, whose place is 0; there is none for 0 or a number too large
+abbrev pub place-of : Strings → ℕ → Option ℕ
+place-of ss n = cond (leb 1 n) (cond (leb n (length ss)) (Some (n - 1)) None) None
 
 -- what a fetch answers, leaves and writes where the string of a place comes out, or none, if the buffer is long enough
 abbrev pub fetch-answer : Bool → Strings → Option ℕ → Result (Option ℕ) Refusal
@@ -111,4 +110,4 @@ pub record WireFetch (before after : Store) (at : Role) (chosen : Option ℕ) (s
 
 -- the oldest string comes out, and does not stay
 abbrev pub FifoFetch : Store → Store → Role → List ℕ → List ℕ → Result (Option ℕ) Refusal → Type 0
-FifoFetch before after at buf buf′ r = WireFetch before after at (oldest (strings-at before at)) false buf buf′ r
+FifoFetch before after at buf buf′ r = WireFetch before after at (place-of (strings-at before at) 1) false buf buf′ r

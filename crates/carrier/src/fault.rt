@@ -46,11 +46,9 @@ impl FaultWire {
         })
     }
 
-    // The choice for this fetch.
-    fn choose(&mut self) -> Choice
-        ensures value { λ r. ⌜ r ≡ chosen-next (to-come (now (self .entry))) ⌝ }
-        ensures rest { λ _. ⌜ to-come (now (self .exit)) ≡ drop 1 (to-come (now (self .entry))) ⌝ }
-        ensures store { λ _. ⌜ now (self .exit) .store ≡ now (self .entry) .store ⌝ }
+    // The choice for the next fetch.
+    fn choice(&self) -> Choice
+        ensures { λ r. ⌜ r ≡ chosen-next (to-come (now (self .entry))) ⌝ }
     {
         if self.next >= self.choices.len() {
             return Choice {
@@ -59,8 +57,17 @@ impl FaultWire {
             };
         }
         let choice = self.choices[self.next];
-        self.next += 1;
         choice
+    }
+
+    // Goes on to the choice after it.
+    fn use_up(&mut self)
+        ensures rest { λ _. ⌜ to-come (now (self .exit)) ≡ drop 1 (to-come (now (self .entry))) ⌝ }
+        ensures store { λ _. ⌜ now (self .exit) .store ≡ now (self .entry) .store ⌝ }
+    {
+        if self.next < self.choices.len() {
+            self.next += 1;
+        }
     }
 }
 
@@ -80,16 +87,9 @@ pub impl Carrier for FaultWire as FaultCarrier {
     }
 
     fn fetch(&mut self, at: Role, buf: &mut [u8]) -> Result<Option<usize>, Refusal> {
-        if buf.len() < GREATEST_LENGTH {
-            return Err(Refusal::BufferTooShort);
-        }
-        let choice = self.choose();
-        if choice.number == 0 || choice.number > self.store.len(at) {
-            return Ok(None);
-        }
-        Ok(Some(
-            self.store
-                .hand_out(at, choice.number - 1, choice.stays, buf),
-        ))
+        let choice = self.choice();
+        let fetched = self.store.fetch(at, choice.number, choice.stays, buf)?;
+        self.use_up();
+        Ok(fetched)
     }
 }

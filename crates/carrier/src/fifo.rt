@@ -43,12 +43,6 @@ pub impl Carrier for FifoWire as FifoCarrier {
     }
 
     fn fetch(&mut self, at: Role, buf: &mut [u8]) -> Result<Option<usize>, Refusal> {
-        if buf.len() < GREATEST_LENGTH {
-            return Err(Refusal::BufferTooShort);
-        }
-        if self.store.len(at) == 0 {
-            return Ok(None);
-        }
-        Ok(Some(self.store.hand_out(at, 0, false, buf)))
+        self.store.fetch(at, 1, false, buf)
     }
 }

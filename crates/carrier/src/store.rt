@@ -5,12 +5,13 @@ ghost use mathlib.Core.List.{[], _++_};
 ghost use Prim.Native.Nat.{_<_, _≤_};
 ghost use lib.ListN.{length, getD, drop};
 ghost use Rattle.std.specs.Holes.{removed};
+ghost use Rattle.std.specs.Options.{Cases as BySome};
 ghost use Rattle.std.specs.Vec.{made};
 ghost use Rattle.codec.specs.Roles.{far};
 ghost use Rattle.codec.specs.declared.role.Role.{Role};
-ghost use Rattle.carrier.specs.Rules.{greatest-length};
+ghost use Rattle.carrier.specs.Rules.{PutRules, FetchRules, greatest-length};
 ghost use Rattle.carrier.specs.Packing.{laid-out};
-ghost use Rattle.carrier.specs.Wires.{strings-at, memory-at, room-at, Fresh, WirePut};
+ghost use Rattle.carrier.specs.Wires.{strings-at, memory-at, room-at, wire-meaning, place-of, Fresh, WirePut, WireFetch};
 use crate::GREATEST_LENGTH;
 use crate::Keeping;
 use crate::queue::Queue;
@@ -48,7 +49,7 @@ impl Store {
     }
 
     // Keeps a string for the far side, if the free memory there holds its bytes and two more.
-    pub(crate) fn put(&mut self, from: Role, s: &[u8]) -> Result<Keeping, Refusal>
+    fn keep(&mut self, from: Role, s: &[u8]) -> Result<Keeping, Refusal>
         ensures { λ r. ⌜ WirePut (now (self .entry)) (now (self .exit)) from (now (s .entry)) r ⌝ }
     {
         if s.len() > GREATEST_LENGTH {
@@ -65,8 +66,27 @@ impl Store {
         }
     }
 
-    // Writes the string number k for a side to the start of a buffer, and lets go of it unless it stays.
-    pub(crate) fn hand_out(&mut self, at: Role, k: usize, stays: bool, buf: &mut [u8]) -> usize
+    // The same, and that it keeps the rules of a carrier.
+    pub(crate) fn put(&mut self, from: Role, s: &[u8]) -> Result<Keeping, Refusal>
+        ensures rules { λ r. ⌜ PutRules (wire-meaning (now (self .entry))) (wire-meaning (now (self .exit))) from (now (s .entry)) r ⌝ }
+        ensures exact { λ r. ⌜ WirePut (now (self .entry)) (now (self .exit)) from (now (s .entry)) r ⌝ }
+    {
+        self.keep(from, s)
+    }
+
+    // The place of the string that a number names, 1 being the oldest, whose place is 0.
+    fn place_of(&self, at: Role, number: usize) -> Option<usize>
+        ensures value { λ r. ⌜ r ≡ place-of (strings-at (now (self .entry)) at) number ⌝ }
+        ensures within { λ r. ⌜ BySome r (Unit {0}) (λ k. k < length (strings-at (now (self .entry)) at)) ⌝ }
+    {
+        if number == 0 || number > self.len(at) {
+            return None;
+        }
+        Some(number - 1)
+    }
+
+    // Writes the string at place k for a side to the start of a buffer, and lets go of it unless it stays.
+    fn hand_out(&mut self, at: Role, k: usize, stays: bool, buf: &mut [u8]) -> usize
         requires within { ⌜ k < length (strings-at (now self) at) ⌝ }
         requires space { ⌜ greatest-length ≤ length (now buf) ⌝ }
         ensures value { λ r. ⌜ r ≡ length (getD (strings-at (now (self .entry)) at) k []) ⌝ }
@@ -93,5 +113,24 @@ impl Store {
                 n
             }
         }
+    }
+    // Hands out the string that a number names, if there is one, and lets go of it unless it stays.
+    pub(crate) fn fetch(
+        &mut self,
+        at: Role,
+        number: usize,
+        stays: bool,
+        buf: &mut [u8],
+    ) -> Result<Option<usize>, Refusal>
+        ensures rules { λ r. ⌜ FetchRules (wire-meaning (now (self .entry))) (wire-meaning (now (self .exit))) at (now (buf .entry)) (now (buf .exit)) r ⌝ }
+        ensures exact { λ r. ⌜ WireFetch (now (self .entry)) (now (self .exit)) at (place-of (strings-at (now (self .entry)) at) number) stays (now (buf .entry)) (now (buf .exit)) r ⌝ }
+    {
+        if buf.len() < GREATEST_LENGTH {
+            return Err(Refusal::BufferTooShort);
+        }
+        let Some(k) = self.place_of(at, number) else {
+            return Ok(None);
+        };
+        Ok(Some(self.hand_out(at, k, stays, buf)))
     }
 }

@@ -21,6 +21,7 @@ use Rattle.codec.specs.Sealing.{Bears}
 use Rattle.codec.specs.Telegrams.{ContentValue, ec-start, am, am-req, am-ack, other, TelegramValue, content-type, read-telegram}
 use Rattle.codec.specs.Words.{connection-word}
 use Rattle.carrier.specs.Rules.{Meaning}
+use Rattle.params.specs.Laws.{InRange}
 use Rattle.ends.specs.declared.answer.Answer.{Answer}
 use Rattle.ends.specs.declared.answer.Place.{Place}
 use Rattle.ends.specs.declared.state.State.{State}
@@ -222,6 +223,8 @@ Fresh c h =
     → (g ▸ m) ≼ h → seat s (m .after) ≡ Some record { end = e; held = held } → reads-by e (e .state) ≡ Some w
     → Bears w x → ⊥
 
--- the law of the link: every run over a carrier in which nothing stale lay obeys it
+-- the law of the link: with any two parameter sets, every run over a carrier in which nothing stale lay obeys it
 abbrev pub Law-of-the-link : Type 0
-Law-of-the-link = (sheets : Sheets) (c : Meaning) (h : History Moment) (t : LinkValue) → Ran sheets c h t → Fresh c h → Law sheets h
+Law-of-the-link =
+    (sheets : Sheets) → ((s : Role) → InRange (sheets s))
+    → (c : Meaning) (h : History Moment) (t : LinkValue) → Ran sheets c h t → Fresh c h → Law sheets h

@@ -36,19 +36,30 @@ kept-either (Err e) (Ok Kept) = Kept
 kept-either (Err e) (Ok NotKept) = NotKept
 kept-either (Err e) (Err f) = NotKept
 
--- both carriers are put the frame, in packets of the same number; kept if either kept it
-pub record BothPut (on-normal on-redundant : List ℕ → Result Keeping Refusal → Type 0) (c c′ : Counters) (from : Role) (s : List ℕ) (kept : Keeping) : Type 0 where
+-- both carriers are put the packet, each with its own mark; it is kept if either kept it
+pub record BothPut (on-normal on-redundant : List ℕ → Result Keeping Refusal → Type 0) (q : PacketValue) (kept : Keeping) : Type 0 where
   pub first : Result Keeping Refusal
   pub second : Result Keeping Refusal
-  pub normal : on-normal (packet-bytes (numbered c from s) Normal) first
-  pub redundant : on-redundant (packet-bytes (numbered c from s) Redundant) second
+  pub normal : on-normal (packet-bytes q Normal) first
+  pub redundant : on-redundant (packet-bytes q Redundant) second
   pub either : kept ≡ kept-either first second
+
+-- the frame is put in packets of the side's next number, which is then used up
+pub record PairKept (on-normal on-redundant : List ℕ → Result Keeping Refusal → Type 0) (most : ℕ) (c c′ : Counters) (from : Role) (s : List ℕ) (kept : Keeping) : Type 0 where
+  pub fits : length s ≤ most
+  pub both : BothPut on-normal on-redundant (numbered c from s) kept
   pub counters : c′ ≡ advanced c from
 
--- a put on a pair of a largest length; refused, it leaves the pair the same
+-- a put that is refused leaves the pair the same
+pub record PairPutRefused (same : Type 0) (most : ℕ) (s : List ℕ) (e : Refusal) : Type 0 where
+  pub reason : e ≡ StringTooLong
+  pub long : most < length s
+  pub unchanged : same
+
+-- a put on a pair of a largest length
 abbrev pub PairPut : ℕ → Type 0 → (List ℕ → Result Keeping Refusal → Type 0) → (List ℕ → Result Keeping Refusal → Type 0) → Counters → Counters → Role → List ℕ → Result Keeping Refusal → Type 0
-PairPut most same on-normal on-redundant c c′ from s (Err e) = (e ≡ StringTooLong) × (most < length s) × same
-PairPut most same on-normal on-redundant c c′ from s (Ok kept) = (length s ≤ most) × BothPut on-normal on-redundant c c′ from s kept
+PairPut most same on-normal on-redundant c c′ from s (Err e) = PairPutRefused same most s e
+PairPut most same on-normal on-redundant c c′ from s (Ok kept) = PairKept on-normal on-redundant most c c′ from s kept
 
 -- a carrier is asked once, into a memory of zeros; a good new packet that it gives goes out
 pub record Asked (ask : List ℕ → Result (Option ℕ) Refusal → List ℕ → Type 0) (most : ℕ) (last : Option TransportNumber) (buf buf′ : List ℕ) (t : Option Taken) : Type 0 where
@@ -76,16 +87,24 @@ abbrev pub after-taken : Counters → Role → Option Taken → Counters
 after-taken c at None = c
 after-taken c at (Some t) = noted c at (t .number)
 
+-- what came out of either carrier comes out of the pair, and its number is the last handed out
 pub record PairAsked (same : Type 0) (ask-normal ask-redundant : List ℕ → Result (Option ℕ) Refusal → List ℕ → Type 0) (most : ℕ) (c c′ : Counters) (at : Role) (buf buf′ : List ℕ)
     (len : Option ℕ) : Type 0 where
+  pub room : most ≤ length buf
   pub out : Option Taken
   pub asked : AskedBoth same ask-normal ask-redundant most (last-number c at) buf buf′ out
   pub value : len ≡ mapped (λ t. t .len) out
   pub counters : c′ ≡ after-taken c at out
 
--- a fetch on a pair of a largest length; refused, it leaves the pair and the buffer the same
+-- a fetch that is refused leaves the pair and the buffer the same
+pub record PairFetchRefused (same : Type 0) (most : ℕ) (buf buf′ : List ℕ) (e : Refusal) : Type 0 where
+  pub reason : e ≡ BufferTooShort
+  pub short : length buf < most
+  pub unchanged : same
+  pub buffer : buf′ ≡ buf
+
+-- a fetch on a pair of a largest length
 abbrev pub PairFetch : ℕ → Type 0 → Type 0 → (List ℕ → Result (Option ℕ) Refusal → List ℕ → Type 0) → (List ℕ → Result (Option ℕ) Refusal → List ℕ → Type 0) → Counters → Counters → Role → List ℕ → List ℕ
     → Result (Option ℕ) Refusal → Type 0
-PairFetch most same same-redundant ask-normal ask-redundant c c′ at buf buf′ (Err e) = (e ≡ BufferTooShort) × (length buf < most) × same × (buf′ ≡ buf)
-PairFetch most same same-redundant ask-normal ask-redundant c c′ at buf buf′ (Ok len) =
-    (most ≤ length buf) × PairAsked same-redundant ask-normal ask-redundant most c c′ at buf buf′ len
+PairFetch most same same-redundant ask-normal ask-redundant c c′ at buf buf′ (Err e) = PairFetchRefused same most buf buf′ e
+PairFetch most same same-redundant ask-normal ask-redundant c c′ at buf buf′ (Ok len) = PairAsked same-redundant ask-normal ask-redundant most c c′ at buf buf′ len

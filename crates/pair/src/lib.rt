@@ -5,10 +5,10 @@ ghost use lib.ListN.{length, replicate};
 ghost use Rattle.std.specs.declared.option.Option.the-variants.{None};
 ghost use Rattle.codec.specs.declared.role.Role.{Role};
 ghost use Rattle.codec.specs.Packets.{packet-bytes};
-ghost use Rattle.carrier.specs.Rules.{PutRules, FetchRules, NoGains, greatest-length};
+ghost use Rattle.carrier.specs.Rules.{PutRules, FetchRules, greatest-length};
 ghost use Rattle.pair.specs.Counts.{next-number, last-number};
 ghost use Rattle.pair.specs.Frames.{packet-overhead, pair-largest, pair-meaning, gives, taken-of, written};
-ghost use Rattle.pair.specs.Pairs.{kept-either, PairPut, PairFetch, Asked, AskedBoth};
+ghost use Rattle.pair.specs.Pairs.{kept-either, BothPut, PairPut, PairFetch, Asked, AskedBoth};
 
 mod counters;
 
@@ -61,6 +61,22 @@ fn either(first: Result<Keeping, Refusal>, second: Result<Keeping, Refusal>) -> 
         (_, Ok(Keeping::Kept)) => Keeping::Kept,
         _ => Keeping::NotKept,
     }
+}
+
+// Puts a frame on both carriers, in packets of one number.
+fn put_both<N: Carrier, R: Carrier>(
+    normal: &mut N,
+    redundant: &mut R,
+    from: Role,
+    number: TransportNumber,
+    frame: &[u8],
+) -> Keeping
+    requires { ⌜ length (now frame) + packet-overhead ≤ greatest-length ⌝ }
+    ensures { λ r. ⌜ BothPut (λ x a. PutRules (N·Carrier .meaning (now (normal .entry))) (N·Carrier .meaning (now (normal .exit))) from x a × N·Carrier .putting (now (normal .entry)) from x a (now (normal .exit))) (λ x a. PutRules (R·Carrier .meaning (now (redundant .entry))) (R·Carrier .meaning (now (redundant .exit))) from x a × R·Carrier .putting (now (redundant .entry)) from x a (now (redundant .exit))) (record { number = number .0; frame = now (frame .entry) }) r ⌝ }
+{
+    let first = put_packet(normal, from, number, Cable::Normal, frame);
+    let second = put_packet(redundant, from, number, Cable::Redundant, frame);
+    either(first, second)
 }
 
 // Writes the frame of a packet to the start of a buffer, if the packet is good and new.
@@ -173,9 +189,7 @@ pub impl<N: Carrier, R: Carrier> Carrier for RedundantPair<N, R> as PairCarrier 
             return Err(Refusal::StringTooLong);
         }
         let number = self.counters.advance(from);
-        let first = put_packet(&mut self.normal, from, number, Cable::Normal, s);
-        let second = put_packet(&mut self.redundant, from, number, Cable::Redundant, s);
-        Ok(either(first, second))
+        Ok(put_both(&mut self.normal, &mut self.redundant, from, number, s))
     }
 
     fn fetch(&mut self, at: Role, buf: &mut [u8]) -> Result<Option<usize>, Refusal> {

@@ -6,3 +6,5 @@ pub mod LineRead
 pub mod SheetTrips
 pub mod LineFaults
 pub mod SheetFaults
+pub mod ScriptFaults
+pub mod ScriptReady

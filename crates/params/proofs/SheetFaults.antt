@@ -34,6 +34,9 @@ use Rattle.params.specs.declared.line.Identifiers.{Identifiers}
 use Rattle.params.specs.declared.line.Ages.{Ages}
 use Rattle.params.specs.declared.line.Limits.{Limits}
 use Rattle.params.specs.declared.values.Values.{Values}
+use Rattle.params.specs.declared.sheet.Sheet.{Sheet as SheetSets}
+use Rattle.params.specs.Made.{sheet-values}
+use Rattle.std.specs.Vec.{refused}
 use Rattle.params.specs.Checks.{kept, kept-below, apart, checked}
 use Rattle.params.specs.Columns.{names, KeepsBelow, differing, distance, versions, periods, windows, mmins, mmaxs, asks, waits, setups, datas, ecs}
 use Rattle.params.specs.FirstFault.{GoodBefore, FirstInLine, from-line, good-lines, role-of, Wrong, not-names, not-ended, one-more, in-line, FirstFault}
@@ -187,3 +190,7 @@ sheet-first text =
     row-step text 1 Initiator (read-row Initiator 2 (after 10 text)) _ (omega arith, omega arith) refl (n, tt) (row-law Initiator 2 (after 10 text)) (λ a i.
     row-step text 2 Responder (read-row Responder 3 (after 10 (after 10 text))) _ (omega arith, omega arith) refl (n, (i, tt)) (row-law Responder 3 (after 10 (after 10 text))) (λ b r.
     more-step text (a, b) (eqb (length (from-line 4 text)) 0) refl (n, (i, (r, tt))))))
+
+pub sheet-first-fault : (text : List ℕ) (r : Result SheetSets FileFault) → sheet-values r ≡ read-sheet text → refused r (λ f. FirstFault text f)
+sheet-first-fault text (Ok s) e = tt
+sheet-first-fault text (Err f) e = subst (SheetLaw text) (sym e) (sheet-first text)

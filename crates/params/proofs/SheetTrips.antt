@@ -24,6 +24,10 @@ use Rattle.texts.specs.Pieces.{before, after, count-of}
 use Rattle.texts.proofs.HexTrips.{then-parts, then-at}
 use Rattle.texts.proofs.Joins.{count-join, before-join, after-join, cut-back}
 use Rattle.params.specs.declared.params.Params.{Params}
+use Rattle.params.specs.declared.sheet.Sheet.{Sheet as SheetSets}
+use Rattle.params.specs.Made.{both-values, sheet-values}
+use Rattle.std.specs.Vec.{made}
+use Rattle.texts.specs.declared.fault.FileFault.{FileFault}
 use Rattle.params.specs.declared.values.Values.{Values}
 use Rattle.params.specs.Columns.{names}
 use Rattle.params.specs.Lines.{read-line}
@@ -101,3 +105,8 @@ sheet-reads a b =
     ∙ then-at _ (row-reads Initiator 2 a u)
     ∙ then-at _ (ap (read-row Responder 3) f ∙ row-reads Responder 3 b [])
     ∙ ap (no-more (a .values, b .values)) (ap (after 10) f ∙ g)
+
+-- what the answer of the reader says of the text, once it is known to be the definition's
+pub sheet-rewritten : (text : List ℕ) (r : Result SheetSets FileFault) → sheet-values r ≡ read-sheet text → made r (λ s. sheet-text (both-values s) ≡ text)
+sheet-rewritten text (Ok s) e = sheet-back text (both-values s) (sym e)
+sheet-rewritten text (Err f) e = tt

@@ -14,15 +14,18 @@ use Rattle.codec.specs.declared.role.Role.the-variants.{Initiator, Responder}
 use Rattle.texts.specs.declared.columns.Column.{Column}
 use Rattle.texts.specs.declared.fault.Fault.{Fault}
 use Rattle.texts.specs.declared.fault.Fault.the-variants.{NamesDiffer, WrongCount, DifferingBits}
-use Rattle.texts.specs.declared.fault.File.the-variants.{Sheet}
+use Rattle.texts.specs.declared.fault.File.the-variants.{Sheet, Script}
 use Rattle.texts.specs.declared.fault.LineFault.{LineFault}
 use Rattle.texts.specs.declared.fault.FileFault.{FileFault}
 use Rattle.texts.specs.Columns.{text-in}
 use Rattle.texts.specs.Headings.{read-names}
 use Rattle.texts.specs.Numbers.{read-number, read-below, read-hex}
 use Rattle.texts.specs.Pieces.{before, after, count-of}
+use Rattle.params.specs.declared.script.ScriptError.{ScriptError}
+use Rattle.params.specs.declared.script.ScriptError.the-variants as script-error
 use Rattle.params.specs.Columns.{names, versions, periods, windows, mmins, mmaxs, asks, waits, setups, datas, ecs}
 use Rattle.params.specs.Lines.{role-column}
+use Rattle.params.specs.Scripts.{read-role, read-deed, read-call, script-names}
 use Rattle.params.specs.Sheets.{read-row}
 
 -- what a column says to a text: it is good, or at fault
@@ -94,3 +97,20 @@ pub record FirstFault (text : List ℕ) (f : FileFault) : Type 0 where
   pub file : f .file ≡ Sheet
   pub earlier : (k : ℕ) → 1 ≤ k → k < f .line → getD (good-lines text) (k - 1) false ≡ true
   pub here : Wrong text f
+
+-- the columns of a script whose verdict needs no other
+abbrev pub call-columns : List (List ℕ → Result (Unit {0}) Fault)
+call-columns = (λ s. verdict (read-role s)) ∷ (λ s. verdict (read-deed s)) ∷ []
+
+-- the first fault of a script: the line of names is good before any call, the calls before the line named are good, and so are the
+-- values before the one named
+pub record FirstInScript (text : List ℕ) (f : FileFault) : Type 0 where
+  pub file : f .file ≡ Script
+  pub names : 2 ≤ f .line → isOk (read-names script-names text) ≡ true
+  pub earlier : (k : ℕ) → 2 ≤ k → k < f .line → isOk (read-call k (from-line k text)) ≡ true
+  pub values : (k : ℕ) → 1 ≤ k → k < f .column → getD call-columns (k - 1) (λ _. Ok tt) (text-in k (before 10 (from-line (f .line) text))) ≡ Ok tt
+
+-- an error that is a fault is the first one
+abbrev pub by-fault-first : List ℕ → ScriptError → Type 0
+by-fault-first text (script-error.Fault f) = FirstInScript text f
+by-fault-first text script-error.NoMemory = Unit {0}

@@ -48,6 +48,7 @@ pub const WINDOW: Column = Column {
         high: 1_000,
     },
 };
+
 // how far below zero
 pub const MMIN: Column = Column {
     place: 9,

@@ -2,8 +2,10 @@
 ghost use mathlib.Core.Path.{_≡_};
 ghost use mathlib.Core.Bool.{true};
 ghost use Rattle.std.specs.Results.{isOk};
-ghost use Rattle.std.specs.Vec.{made};
+ghost use Rattle.std.specs.Vec.{made, refused};
 ghost use Rattle.params.specs.Calls.{Answers, said, all-said, spoken, by-fault, no-memory};
+ghost use Rattle.params.specs.FirstFault.{by-fault-first};
+ghost use Rattle.params.specs.Laws.{ReadyScript};
 ghost use Rattle.params.specs.Scripts.{read-role, read-deed, read-text, message-in, read-head, read-call, read-calls, read-script, first-call};
 use super::call::Action;
 use super::call::Call;
@@ -198,7 +200,9 @@ fn read_calls(heap: Global, text: &[u8]) -> Result<Vec<Call>, ScriptError>
 
 // The calls of a script, in order, or its first fault; or no memory to keep them in.
 pub fn read_script(heap: Global, text: &[u8]) -> Result<Vec<Call>, ScriptError>
-    ensures { λ r. ⌜ Answers all-said (read-script (now (text .entry))) (isOk (first-call (now (text .entry))) ≡ true) r ⌝ }
+    ensures value { λ r. ⌜ Answers all-said (read-script (now (text .entry))) (isOk (first-call (now (text .entry))) ≡ true) r ⌝ }
+    ensures ready { λ r. ⌜ made r (λ v. ReadyScript (all-said v)) ⌝ }
+    ensures first { λ r. ⌜ refused r (by-fault-first (now (text .entry))) ⌝ }
 {
     names(text, NAMES).on(File::Script, 1)?;
     let (_, rest) = cut(text, b'\n');

@@ -1,9 +1,11 @@
 // A sheet: the line of names, the initiator's line, the responder's line.
 ghost use mathlib.Core.Path.{_≡_};
 ghost use Rattle.params.specs.Sheets.{read-row, read-rows, read-sheet};
-ghost use Rattle.std.specs.Vec.{made};
+ghost use Rattle.std.specs.Vec.{made, refused};
+ghost use Rattle.params.specs.FirstFault.{FirstFault};
 ghost use Rattle.params.specs.Laws.{InRange};
-ghost use Rattle.params.specs.Made.{values-of, sheet-values};
+ghost use Rattle.params.specs.Made.{values-of, both-values, sheet-values};
+ghost use Rattle.params.specs.Writing.{sheet-text};
 use super::columns::NAMES;
 use super::line::read_line;
 use super::params::Params;
@@ -55,10 +57,12 @@ fn read_rows(text: &[u8]) -> Result<Sheet, FileFault>
     })
 }
 
-// The sheet that a text is, or its first fault.
+// The sheet that a text is, or its first fault. Every value of it lies in its range, and written again it is the same text.
 pub fn read_sheet(text: &[u8]) -> Result<Sheet, FileFault>
     ensures value { λ r. ⌜ sheet-values r ≡ read-sheet (now (text .entry)) ⌝ }
     ensures inside { λ r. ⌜ made r (λ s. InRange (s .initiator .values) × InRange (s .responder .values)) ⌝ }
+    ensures first { λ r. ⌜ refused r (λ f. FirstFault (now (text .entry)) f) ⌝ }
+    ensures rewritten { λ r. ⌜ made r (λ s. sheet-text (both-values s) ≡ now (text .entry)) ⌝ }
 {
     names(text, NAMES).on(File::Sheet, 1)?;
     let (_, rest) = cut(text, b'\n');

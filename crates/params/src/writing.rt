@@ -3,7 +3,9 @@ ghost use mathlib.Core.Path.{_≡_};
 ghost use Rattle.std.specs.Of.String.{string-bytes};
 ghost use Rattle.std.specs.Vec.{made};
 ghost use Rattle.std.specs.declared.option.Option.the-variants.{Some};
+ghost use Rattle.std.specs.declared.result.Result.the-variants.{Ok};
 ghost use Rattle.params.specs.Made.{both-values};
+ghost use Rattle.params.specs.Sheets.{read-sheet};
 ghost use Rattle.params.specs.Writing.{role-number, identifiers-text, ages-text, limits-text, line-text, sheet-text};
 use super::columns::NAMES;
 use super::line::Ages;
@@ -100,9 +102,10 @@ impl fmt::Display for Line as LineDisplay {
     }
 }
 
-// The text of a sheet.
+// The text of a sheet, which reads back as the same sheet.
 pub fn write_sheet(heap: Global, sheet: &Sheet) -> Result<String, AllocError>
     ensures text { λ r. ⌜ made r (λ t. string-bytes t ≡ sheet-text (both-values (now (sheet .entry)))) ⌝ }
+    ensures reread { λ r. ⌜ made r (λ t. read-sheet (string-bytes t) ≡ Ok (both-values (now (sheet .entry)))) ⌝ }
 {
     let initiator = Line {
         role: Role::Initiator,

@@ -38,11 +38,6 @@ pub value-grows : (s : List ℕ) (v : ℕ) → v ≤ value-of v s
 value-grows [] v = le-refl v
 value-grows (b ∷ s) v = le-trans (let h : v ≤ v * 10 + (b - 48) = omega arith in h) (value-grows s (v * 10 + (b - 48)))
 
-pub proper-two : (s : List ℕ) → 2 ≤ length s → proper s ≡ not (eqb (getD s 0 0) 48)
-proper-two [] h = absurd (omega arith)
-proper-two (b ∷ []) h = absurd (omega arith)
-proper-two (b ∷ c ∷ s) h = refl
-
 -- n is the number so far, or both are past 32 bits
 abbrev pub Kept : List ℕ → ℕ → ℕ → Type 0
 Kept s i n = (n < 2 ^ 32 → value-of n (drop i s) ≡ value-of 0 s) × (2 ^ 32 ≤ n → 2 ^ 32 ≤ value-of 0 s) × (n < 2 ^ 36)

@@ -1,6 +1,6 @@
 -- Hexadecimal digits and numbers below zero: written and read back, read and written again.
 use mathlib.Core.Path.{_≡_, refl, sym, ap, subst, _∙_}
-use mathlib.Core.Bool.{true, false, cond}
+use mathlib.Core.Bool.{Bool, true, false, cond}
 use mathlib.Core.List.{List, [], _∷_}
 use Prim.Native.Nat.{ℕ, zero, suc, _+_, _-_, _*_, _/_, _%_, _^_, _<_, _≤_}
 use native.Mathlib.Nat.{pow-suc, div-div-eq-div-mul, div-one, div-eq-of-lt, mod-lt, div-add-mod'}
@@ -10,15 +10,16 @@ use lib.IntN.{ℤ, pos, negsuc, negℤ}
 use lib.ListN.{length, getD, drop}
 use lib.Signed.{_≤ℤ_}
 use Rattle.std.proofs.shelf.Signed.{ints}
-use Rattle.std.proofs.shelf.Tests.{cond-true, ne-eqb}
+use Rattle.std.proofs.shelf.Tests.{cond-true, ne-eqb, eqb-true}
 use Rattle.std.proofs.shelf.Ways.{tells}
 use Rattle.std.specs.Written.{decimal, signed}
 use Rattle.std.specs.declared.result.Result.{Result}
 use Rattle.std.specs.declared.result.Result.the-variants.{Ok, Err}
 use Rattle.codec.specs.Outcomes.{then}
 use Rattle.texts.specs.declared.fault.Fault.{Fault}
+use Rattle.texts.specs.declared.fault.Fault.the-variants.{WrongForm, OutOfRange}
 use Rattle.texts.specs.declared.numbers.Range.{Range}
-use Rattle.texts.specs.Numbers.{Within, read-number, read-digit, hex-on, read-hex, read-below}
+use Rattle.texts.specs.Numbers.{Within, is-number, read-number, read-digit, hex-on, read-hex, read-below}
 use Rattle.texts.specs.Pieces.{count-of}
 use Rattle.texts.specs.Writing.{hex-char, hex-digits, hex-text}
 use Rattle.texts.proofs.Digits.{number-in}
@@ -86,8 +87,15 @@ minus-first : (s : List ℕ) → getD s 0 0 ≡ 45 → s ≡ 45 ∷ drop 1 s
 minus-first [] e = absurd (omega arith)
 minus-first (b ∷ s) e = ap (λ x. x ∷ s) e
 
+signed-parts : (b c : Bool) (x : Result ℤ Fault) (z : ℤ) → cond b x (cond c (Err OutOfRange) (Err WrongForm)) ≡ Ok z → (b ≡ true) × (x ≡ Ok z)
+signed-parts true c x z e = (refl, e)
+signed-parts false true x z e = absurd (grind arith)
+signed-parts false false x z e = absurd (grind arith)
+
 below-parts : (r : Range) (s : List ℕ) (z : ℤ) → read-below r s ≡ Ok z → (getD s 0 0 ≡ 45) × (then (read-number r (drop 1 s)) (λ n. Ok (negℤ (pos n))) ≡ Ok z)
-below-parts r s z e = (grind (arith, tells), grind (arith, tells))
+below-parts r s z e =
+    let p = signed-parts (eqb (getD s 0 0) 45) (is-number s) (then (read-number r (drop 1 s)) (λ n. Ok (negℤ (pos n)))) z e in
+    (eqb-true _ _ (p .0), p .1)
 
 negated : (n : ℕ) → 1 ≤ n → signed (negℤ (pos n)) ≡ 45 ∷ decimal n
 negated zero h = absurd (omega arith)

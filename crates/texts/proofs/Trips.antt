@@ -22,14 +22,14 @@ own : Numerals (λ s. digits s ≡ true) (value-of 0)
 own = numerals-by-fold _ (search needs) value-of (search needs)
 
 proper-some : (s : List ℕ) → proper s ≡ true → (0 < length s) × (getD s 0 0 ≡ 48 → length s ≡ 1)
-proper-some [] h = grind arith
-proper-some (b ∷ []) h = (omega arith, λ e. refl)
-proper-some (b ∷ c ∷ s) h = (omega arith, λ e. grind (arith, tells))
+proper-some s h = (grind (arith, tells), λ e. grind (arith, tells))
 
 proper-from : (s : List ℕ) → 0 < length s → (getD s 0 0 ≡ 48 → length s ≡ 1) → proper s ≡ true
-proper-from [] h k = absurd (omega arith)
-proper-from (b ∷ []) h k = refl
-proper-from (b ∷ c ∷ s) h k = not-from-false _ (ne-eqb b 48 (λ e. let z : length (b ∷ c ∷ s) ≡ 1 = k e in omega arith))
+proper-from s h k =
+    ⊎-elim
+    (λ one. grind (arith, tells))
+    (λ more. cond-true _ _ _ (le-leb 2 (length s) more) ∙ not-from-false _ (ne-eqb (getD s 0 0) 48 (λ e. let z : length s ≡ 1 = k e in omega arith)))
+    (cases-lt (length s) 2)
 
 -- what a reading of a number says
 pub number-parts : (r : Range) (s : List ℕ) (n : ℕ) → read-number r s ≡ Ok n → (is-number s ≡ true) × (value-of 0 s ≡ n) × Within r n

@@ -30,9 +30,7 @@ digits (b ∷ s) = (leb 48 b && leb b 57) && digits s
 
 -- there is a digit, and no zero in front of others
 abbrev pub proper : List ℕ → Bool
-proper [] = false
-proper (b ∷ []) = true
-proper (b ∷ c ∷ s) = not (eqb b 48)
+proper s = cond (leb 2 (length s)) (not (eqb (getD s 0 0) 48)) (eqb (length s) 1)
 
 abbrev pub is-number : List ℕ → Bool
 is-number s = digits s && proper s

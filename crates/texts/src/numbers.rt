@@ -2,7 +2,7 @@
 ghost use mathlib.Core.Path.{_≡_};
 ghost use Prim.Native.Nat.{_+_, _≤_, _<_};
 ghost use Rattle.std.specs.Vec.{made};
-ghost use Rattle.texts.specs.Numbers.{is-number, read-number, read-digit, read-hex, read-below, Within};
+ghost use Rattle.texts.specs.Numbers.{digits, proper, is-number, read-number, read-digit, read-hex, read-below, Within};
 use super::fault::Fault;
 
 // The numbers from `low` to `high`, both among them.
@@ -12,20 +12,37 @@ pub struct Range {
     pub high: u32,
 }
 
-// Whether `s` is a number: digits, with no zero in front of others.
-fn is_number(s: &[u8]) -> bool
-    ensures { λ r. ⌜ r ≡ is-number (now (s .entry)) ⌝ }
+// Whether each byte is a digit.
+fn all_digits(s: &[u8]) -> bool
+    ensures { λ r. ⌜ r ≡ digits (now (s .entry)) ⌝ }
 {
     for x in s {
         if *x < b'0' || b'9' < *x {
             return false;
         }
     }
+    true
+}
+
+// Whether there is a digit, and no zero in front of others.
+fn is_proper(s: &[u8]) -> bool
+    ensures { λ r. ⌜ r ≡ proper (now (s .entry)) ⌝ }
+{
     match s {
         [] => false,
         [_] => true,
         [first, ..] => *first != b'0',
     }
+}
+
+// Whether `s` is a number.
+fn is_number(s: &[u8]) -> bool
+    ensures { λ r. ⌜ r ≡ is-number (now (s .entry)) ⌝ }
+{
+    if !all_digits(s) {
+        return false;
+    }
+    is_proper(s)
 }
 
 // A number within its range.

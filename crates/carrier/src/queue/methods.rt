@@ -3,8 +3,9 @@ ghost use mathlib.Core.Path.{_≡_};
 ghost use mathlib.Core.Bool.{cond};
 ghost use mathlib.Core.List.{List, [], _∷_, _++_};
 ghost use Prim.Native.Nat.{ℕ, _+_, _-_, _*_, _/_, _%_, _<_, _≤_};
-ghost use lib.Dec.{leb};
+ghost use lib.Dec.{T, leb};
 ghost use lib.ListN.{length, getD, take, drop};
+ghost use lib.Seq.{paste};
 ghost use Rattle.std.specs.Of.Vec.{vec-items, vec-len};
 ghost use Rattle.std.specs.Holes.{removed};
 ghost use Rattle.carrier.specs.Rules.{greatest-length};
@@ -31,6 +32,17 @@ fn store(memory: &mut Vec<u8>, at: usize, s: &[u8])
     ensures len { λ _. ⌜ vec-len (now (memory .exit)) ≡ vec-len (now (memory .entry)) ⌝ }
 {
     store_slice(memory.as_mut_slice(), at, s);
+}
+
+// Moves what lies behind a gap up to the gap's start, and answers how many bytes are in use then.
+fn close_gap(memory: &mut Vec<u8>, start: usize, end: usize, used: usize) -> usize
+    requires { ⌜ (start ≤ end) × (end ≤ used) × (used ≤ vec-len (now memory)) ⌝ }
+    ensures value { λ r. ⌜ r ≡ used - (end - start) ⌝ }
+    ensures items { λ _. ⌜ vec-items (now (memory .exit)) ≡ paste (vec-items (now (memory .entry))) start (drop end (vec-items (now (memory .entry)))) (used - end) ⌝ }
+    ensures len { λ _. ⌜ vec-len (now (memory .exit)) ≡ vec-len (now (memory .entry)) ⌝ }
+{
+    memory.copy_within(end..used, start);
+    start + (used - end)
 }
 
 // The length of the string that lies at a place.
@@ -66,7 +78,24 @@ impl Queue {
         self.count
     }
 
-    // Keeps a string if the free memory holds its bytes and two more.
+    // How many bytes the strings take up.
+    fn bulk(&self) -> usize
+        ensures value { λ r. ⌜ r ≡ bulk (held (now (self .entry))) ⌝ }
+        ensures used { λ r. ⌜ r ≡ now (self .entry) .used ⌝ }
+    {
+        self.used
+    }
+
+    // Whether the free memory holds n bytes and two more.
+    fn has_room(&self, n: usize) -> bool
+        requires { ⌜ n ≤ greatest-length ⌝ }
+        ensures test { λ r. ⌜ r ≡ leb (bulk (held (now (self .entry))) + (n + 2)) (size (now (self .entry))) ⌝ }
+        ensures fits { λ r. ⌜ (T r → now (self .entry) .used + (n + 2) ≤ size (now (self .entry))) ⌝ }
+    {
+        self.memory.len() - self.bulk() >= n + 2
+    }
+
+    // Keeps a string if there is room for it.
     pub(crate) fn push(&mut self, s: &[u8]) -> bool
         requires { ⌜ length (now s) ≤ greatest-length ⌝ }
         ensures test { λ r. ⌜ r ≡ leb (bulk (held (now (self .entry))) + (length (now (s .entry)) + 2)) (size (now (self .entry))) ⌝ }
@@ -75,7 +104,7 @@ impl Queue {
         ensures size { λ _. ⌜ size (now (self .exit)) ≡ size (now (self .entry)) ⌝ }
     {
         let n = s.len();
-        if self.memory.len() - self.used < n + 2 {
+        if !self.has_room(n) {
             return false;
         }
         store(&mut self.memory, self.used, s);
@@ -121,8 +150,7 @@ impl Queue {
         ensures size { λ _. ⌜ size (now (self .exit)) ≡ size (now (self .entry)) ⌝ }
     {
         let Place { start, len } = self.place(k);
-        self.memory.copy_within(start + (len + 2)..self.used, start);
-        self.used -= len + 2;
+        self.used = close_gap(&mut self.memory, start, start + (len + 2), self.used);
         self.count -= 1;
     }
 }

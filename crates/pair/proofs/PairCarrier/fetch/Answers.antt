@@ -59,10 +59,10 @@ pub returns-in-None : need.returns-in-None
 returns-in-None g c =
     let d = need.at·returns-in-None g c .After-fetch-either in
     let h = came g d None (c .in-None .ensures tt) in
-    record { rules = h .0; exact = (room g d, record { out = None; asked = h .1; value = refl; counters = refl }) }
+    record { rules = h .0; exact = record { room = room g d; out = None; asked = h .1; value = refl; counters = refl } }
 
 pub returns-in-Some : need.returns-in-Some
 returns-in-Some g c =
     let d = need.at·returns-in-Some g c .After-fetch-either in
     let h = came g d (Some (c .in-Some .taken)) (c .in-Some .ensures tt) in
-    record { rules = h .0; exact = (room g d, record { out = Some (c .in-Some .taken); asked = h .1; value = refl; counters = c .note .ensures }) }
+    record { rules = h .0; exact = record { room = room g d; out = Some (c .in-Some .taken); asked = h .1; value = refl; counters = c .note .ensures } }

@@ -1,13 +1,12 @@
 -- The string lies behind the others, whose bytes do not move.
-use Prim.Native.Nat.{_+_, _≤_}
-use mathlib.Core.Path.{refl, sym}
+use Prim.Native.Nat.{_+_}
 use mathlib.Core.List.{_++_, [], _∷_}
 use native.Mathlib.Omega.{arith}
-use borrow.Author.Tests.{le-leb, lt-leb}
-use lib.ListN.{length, drop}
-use Rattle.std.specs.Of.Vec.{vec-items, vec-len}
+use borrow.Author.Needs.{needs}
+use lib.ListN.{length}
+use Rattle.std.specs.Of.Vec.{vec-items}
 use Rattle.carrier.specs.Packing.{unpacked}
-use Rattle.carrier.proofs.Packing.{Holding, holding-push, bulk-is, count-used, laid-by}
+use Rattle.carrier.proofs.Packing.{Holding, holding-push, count-used}
 use Rattle.carrier.proofs.queue.Queue.push.Needs as need
 use Rattle.carrier.proofs.queue.Queue.push.Needs.{After-store}
 
@@ -21,13 +20,13 @@ after c =
     holding-push (vec-items (q .memory)) _ (c .args .s .now) (q .used) (q .count) (q .whole) (omega arith) (q .short) (c .pre) (c .store .ensures .items)
 
 pub ghost-self : need.ghost-self
-ghost-self c = (after c .whole, (omega arith, (after c .short, tt)))
+ghost-self c = (after c .whole, (search needs, (after c .short, tt)))
 
 pub returns : need.returns
 returns c =
     let h = after (need.at·returns c .After-store) in
     record {
-      test = let q = c .args .self .now in let b = bulk-is (vec-items (q .memory)) (q .used) (q .count) (q .whole) (omega arith) in sym (le-leb _ _ (omega arith));
+      test = search needs;
       held = h .is;
       contents = h .laid;
       size = c .store .ensures .len;
