@@ -1,0 +1,10 @@
+pub mod Times
+pub mod Ends
+pub mod Round
+pub mod Latest
+pub mod Standing
+pub mod Ways
+pub mod Words
+pub mod Runs
+pub mod Sends
+pub mod Laws
