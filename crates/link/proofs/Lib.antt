@@ -5,3 +5,6 @@ pub mod Shapes
 pub mod Ticking
 pub mod Reading
 pub mod Fetching
+pub mod Moving
+pub mod Putting
+pub mod Fits
