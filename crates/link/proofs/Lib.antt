@@ -8,3 +8,4 @@ pub mod Fetching
 pub mod Moving
 pub mod Putting
 pub mod Fits
+pub mod Telling
