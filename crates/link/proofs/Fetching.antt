@@ -42,7 +42,7 @@ told : (t : TelegramValue) (c : ContentValue) (sn : SequenceNumber) (ec : Execut
 told t c sn ec a b d = λ i. record { kind = kind-of (a i); sn = b i; ec = d i }
 
 -- what an end reads under its word was put by the far end
-pub Heard : (Tel → Type 0) → EndValue → List ℕ → Type 0
+abbrev pub Heard : (Tel → Type 0) → EndValue → List ℕ → Type 0
 Heard from e x = (t : TelegramValue) (w : ℕ) → Carries x t → reads-by e (e .state) ≡ Some w → Bears w x → from (tel-of t)
 
 module _ (from : Tel → Type 0) (e : EndValue) (a : Shape) where
@@ -107,7 +107,6 @@ module _ (from : Tel → Type 0) (e : EndValue) (a : Shape) where
 
   way-acts : (x : List ℕ) → Bytes x → Heard from e x → Looks e (e .state) a → (way : FetchWay) → fetch-way e x ≡ way
       → Acts (e .role) (e .values) from a (fetch-deed (e .role) (e .state) way) (after-fetch e way)
-  unfolding Heard
   way-acts x b heard h fetch.Drops k = record { can = tt; looks = h }
   way-acts x b heard h (fetch.LeftByFar codes) k = record { can = tt; looks = refl }
   way-acts x b heard h (fetch.Releases r) k = record { can = tt; looks = refl }

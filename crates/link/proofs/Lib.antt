@@ -9,3 +9,4 @@ pub mod Moving
 pub mod Putting
 pub mod Fits
 pub mod Telling
+pub mod Simulation
