@@ -57,7 +57,7 @@ silent-deed role (state.WaitAu3 ra rb) = model.drifts 1
 silent-deed Initiator (state.WaitEc words) = model.waits
 silent-deed Responder (state.WaitEc words) = model.drifts 1
 silent-deed role (state.WaitFirst words last synced) = model.waits
-silent-deed role (state.Up words sent last synced) = model.idle
+silent-deed role (state.Up words sent last synced) = model.leaves 1
 silent-deed role (state.Out release) = model.leaves 1
 
 abbrev pub tick-deed : Role → State → TickWay → model.Deed

@@ -10,3 +10,4 @@ pub mod Putting
 pub mod Fits
 pub mod Telling
 pub mod Simulation
+pub mod Counting

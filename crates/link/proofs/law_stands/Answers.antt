@@ -1,5 +1,6 @@
 use Rattle.link.proofs.Simulation.{sim}
+use Rattle.link.proofs.Counting.{mine-counted, other-counted, ticks-rise}
 use Rattle.link.proofs.law_stands.Needs as need
 
 pub returns : need.returns
-returns c = let x = sim in ?
+returns c = let x = sim in let y = mine-counted in ?
