@@ -38,7 +38,7 @@ use Rattle.link.proofs.Deeds.{kind-of, tel-of, tel, start-deed, first-deed, up
 use Rattle.link.proofs.Reading.{Taken, First-spot, Up-spot, Started, content-of, takes-is, starts-is, au1-is, au2-is, au3-is, ar-is}
 
 -- the telegram of the model that a frame carries
-told : (t : TelegramValue) (c : ContentValue) (sn : SequenceNumber) (ec : ExecutionCycle) → t .content ≡ c → t .sn ≡ sn .0 → t .ec ≡ ec .0 → tel-of t ≡ tel (kind-of c) sn ec
+pub told : (t : TelegramValue) (c : ContentValue) (sn : SequenceNumber) (ec : ExecutionCycle) → t .content ≡ c → t .sn ≡ sn .0 → t .ec ≡ ec .0 → tel-of t ≡ tel (kind-of c) sn ec
 told t c sn ec a b d = λ i. record { kind = kind-of (a i); sn = b i; ec = d i }
 
 -- what an end reads under its word was put by the far end

@@ -11,3 +11,4 @@ pub mod Fits
 pub mod Telling
 pub mod Simulation
 pub mod Counting
+pub mod Syncing
