@@ -116,10 +116,10 @@ abbrev pub came-length : Option ℕ → ℕ
 came-length None = 0
 came-length (Some n) = n
 
--- what came is bytes
+-- what came is bytes, and as many as the fetch answered
 abbrev pub Octets : List ℕ → Option ℕ → Type 0
 Octets buf None = Unit {0}
-Octets buf (Some n) = Bytes (take n buf)
+Octets buf (Some n) = Bytes (take n buf) × (length (take n buf) ≡ n)
 
 -- what comes, if anything, is open, within the carrier's rules; by it the rule that applies says what the fetch does
 pub record FetchDone (e e′ : EndValue) (m m′ : Meaning) (buf buf′ out out′ : List ℕ) (r : Answer) : Type 0 where

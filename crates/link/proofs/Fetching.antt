@@ -173,4 +173,4 @@ fetch-acts from m t a h heard = go (fetch-refusal (t .e) (m .before .carrier .la
         came (Some n) k b e =
             subst (λ o. Acts (t .e .role) (t .e .values) from a (took-deed (t .e) o) (t .e′)) (sym k)
             (subst (Acts (t .e .role) (t .e .values) from a (fetch-deed (t .e .role) (t .e .state) (fetch-way (t .e) (take n (t .buf′))))) (sym e)
-            (way-acts from (t .e) a (take n (t .buf′)) b (heard (take n (t .buf′)) k b) h _ refl))
+            (way-acts from (t .e) a (take n (t .buf′)) (b .0) (heard (take n (t .buf′)) k (b .0)) h _ refl))

@@ -12,3 +12,5 @@ pub mod Telling
 pub mod Simulation
 pub mod Counting
 pub mod Syncing
+pub mod Accepting
+pub mod Delivering

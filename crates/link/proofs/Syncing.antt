@@ -49,7 +49,7 @@ took-bytes m t x k = go (fetch-refusal (t .e) (m .before .carrier .largest) (len
   where
     came : (o : Option ℕ) → m .took ≡ came-string (t .buf′) o → Octets (t .buf′) o → Bytes x
     came None p b = none-some x (sym p ∙ k)
-    came (Some n) p b = let same : take n (t .buf′) ≡ x = cc in subst Bytes same b
+    came (Some n) p b = let same : take n (t .buf′) ≡ x = cc in subst Bytes same (b .0)
 
     go : (o : Option Refusal) → Fetch-does o m (t .e) (t .e′) (t .buf) (t .buf′) (t .out) (t .out′) → Bytes x
     go (Some y) d = none-some x (sym (d .1) ∙ k)

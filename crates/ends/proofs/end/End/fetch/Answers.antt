@@ -53,7 +53,7 @@ returns-in-Ok-Some g c =
       came = Some n;
       between = between;
       fetched = came;
-      octets = subst Bytes is (c .take-delivered .ensures .octets);
+      octets = (subst Bytes is (c .take-delivered .ensures .octets), long);
       end = end;
       carrier =
           put-laid between m′ (e .role) p out _ (c .take-delivered .result .1) value after
