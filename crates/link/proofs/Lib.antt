@@ -14,3 +14,4 @@ pub mod Counting
 pub mod Syncing
 pub mod Accepting
 pub mod Delivering
+pub mod Lawful

@@ -139,14 +139,20 @@ seated-since sheets c new t Responder e held k q = none-some _ (sym (ap (seat Re
 seated-since sheets c (g ▸ n) t r e held k q = (g, n, refl, sym (ap (seat r) (k .2)) ∙ q)
 
 -- what an end reads under its word was put by the far end in this run
-heard : (sheets : Sheets) (s : Role) (c : Meaning) (h : History Moment) (m : Moment) → Ran sheets c h (m .before) → Fresh c (h ▸ m) → Sim sheets s h (m .before)
-    → (t : Fetch m) → t .e .role ≡ m .role → (x : List ℕ) → m .took ≡ Some x → Heard (λ f. From-far sheets s (m .role) f h) (t .e) x
-heard sheets s c h m r fresh sim t role x k g w carries reads bears =
+pub far-put : (sheets : Sheets) (c : Meaning) (h : History Moment) (m : Moment) → Ran sheets c h (m .before) → Fresh c (h ▸ m)
+    → (t : Fetch m) → t .e .role ≡ m .role → (x : List ℕ) → m .took ≡ Some x → (w : ℕ) → reads-by (t .e) (t .e .state) ≡ Some w → Bears w x → PutBy (far (m .role)) x h
+far-put sheets c h m r fresh t role x k w reads bears =
     ⊎-elim
     (λ lay. let q = seated-since sheets c h (m .before) (m .role) (t .e) (t .held) r (t .was) in
     absurd (fresh (m .role) x lay (m .role) (q .0) (q .1) (t .e) (t .held) w (subst (λ z. z ≼ (h ▸ m)) (q .2) (later now′)) (q .3) reads bears))
-    (λ p. from-far sheets s (m .role) (tel-of g) h (p .i) (p .m) (p .earlier) (p .role) (sim .logged (p .i) (p .m) x g (p .earlier) (p .put) carries))
+    (λ p. p)
     (origin sheets c h (m .before) r (m .role) x (subst (λ z. List·Memᴰ x (m .before .carrier .strings z)) role (taken-listed m t x k)))
+
+heard : (sheets : Sheets) (s : Role) (c : Meaning) (h : History Moment) (m : Moment) → Ran sheets c h (m .before) → Fresh c (h ▸ m) → Sim sheets s h (m .before)
+    → (t : Fetch m) → t .e .role ≡ m .role → (x : List ℕ) → m .took ≡ Some x → Heard (λ f. From-far sheets s (m .role) f h) (t .e) x
+heard sheets s c h m r fresh sim t role x k g w carries reads bears =
+    let p = far-put sheets c h m r fresh t role x k w reads bears in
+    from-far sheets s (m .role) (tel-of g) h (p .i) (p .m) (p .earlier) (p .role) (sim .logged (p .i) (p .m) x g (p .earlier) (p .put) carries)
 
 -- a run is a run of the model
 pub sim : (sheets : Sheets) → ((r : Role) → InRange (sheets r)) → (s : Role) (c : Meaning) (h : History Moment) (t : LinkValue) → Ran sheets c h t → Fresh c h → Sim sheets s h t
