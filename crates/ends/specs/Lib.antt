@@ -7,3 +7,4 @@ pub mod Effects
 pub mod Puts
 pub mod Calls
 pub mod Openings
+pub mod Steps

@@ -8,6 +8,7 @@ ghost use Rattle.std.specs.declared.option.Option.the-variants.{Some, None};
 ghost use Rattle.codec.specs.Numbers.{Bytes};
 ghost use Rattle.ends.specs.Calls.{answering, call-refusal, out-refusal, tick-refusal, fetch-refusal, message-refusal, said, Ticks, Fetches, Stops, Puts};
 ghost use Rattle.ends.specs.Ends.{end-value};
+ghost use Rattle.ends.specs.Steps.{Put-step, Tick-step, Fetch-step, Stop-step};
 ghost use Rattle.ends.specs.States.{status-of};
 ghost use Rattle.ends.specs.Ways.{tick-way, fetch-way};
 ghost use Rattle.ends.specs.Effects.{after-tick, after-fetch, tick-put, fetch-put, delivers};
@@ -49,7 +50,8 @@ fn has_room(largest: usize, buf: usize, out: usize) -> bool
 // Puts what stands at the start of `out`, if anything was laid there.
 pub(crate) fn put<C: Carrier>(carrier: &mut C, from: Role, laid: Option<usize>, out: &[u8])
     requires { ⌜ Fits laid (length (now out)) ⌝ }
-    ensures { λ _. ⌜ Puts (meaning (now (carrier .entry))) (meaning (now (carrier .exit))) from (front laid (now (out .entry))) ⌝ }
+    ensures rules { λ _. ⌜ Puts (meaning (now (carrier .entry))) (meaning (now (carrier .exit))) from (front laid (now (out .entry))) ⌝ }
+    ensures exact { λ _. ⌜ Put-step putting (now (carrier .entry)) (now (carrier .exit)) from (front laid (now (out .entry))) ⌝ }
 {
     if let Some(n) = laid {
         let _ = carrier.put(from, &out[0..n]);
@@ -140,7 +142,8 @@ impl End {
 
     // One tick of the end, with a message, which may be empty.
     pub fn tick<C: Carrier>(&mut self, carrier: &mut C, message: &[u8], out: &mut [u8]) -> Answer
-        ensures { λ r. ⌜ Ticks (end-value (now (self .entry))) (end-value (now (self .exit))) (meaning (now (carrier .entry))) (meaning (now (carrier .exit))) (now (message .entry)) (now (out .entry)) (now (out .exit)) r ⌝ }
+        ensures rules { λ r. ⌜ Ticks (end-value (now (self .entry))) (end-value (now (self .exit))) (meaning (now (carrier .entry))) (meaning (now (carrier .exit))) (now (message .entry)) (now (out .entry)) (now (out .exit)) r ⌝ }
+        ensures exact { λ _. ⌜ Tick-step putting (now (carrier .entry)) (now (carrier .exit)) (end-value (now (self .entry))) (meaning (now (carrier .entry)) .largest) (now (message .entry)) (now (out .entry)) ⌝ }
     {
         let room = out.len() >= LONGEST_FRAME;
         if let Some(refused) = refusal(carrier.max_len(), room, self.out_refusal()) {
@@ -171,7 +174,8 @@ impl End {
 
     // Takes what comes out of the carrier, if anything does.
     pub fn fetch<C: Carrier>(&mut self, carrier: &mut C, buf: &mut [u8], out: &mut [u8]) -> Answer
-        ensures { λ r. ⌜ Fetches (end-value (now (self .entry))) (end-value (now (self .exit))) (meaning (now (carrier .entry))) (meaning (now (carrier .exit))) (now (buf .entry)) (now (buf .exit)) (now (out .entry)) (now (out .exit)) r ⌝ }
+        ensures rules { λ r. ⌜ Fetches (end-value (now (self .entry))) (end-value (now (self .exit))) (meaning (now (carrier .entry))) (meaning (now (carrier .exit))) (now (buf .entry)) (now (buf .exit)) (now (out .entry)) (now (out .exit)) r ⌝ }
+        ensures exact { λ r. ⌜ Fetch-step putting fetching (now (carrier .entry)) (now (carrier .exit)) (end-value (now (self .entry))) (end-value (now (self .exit))) (meaning (now (carrier .entry)) .largest) (now (buf .entry)) (now (buf .exit)) (now (out .entry)) (now (out .exit)) r ⌝ }
     {
         let largest = carrier.max_len();
         if let Some(refused) = refusal(
@@ -194,7 +198,8 @@ impl End {
 
     // Takes the token back, and releases the end unless it is out.
     pub fn stop<C: Carrier>(&mut self, carrier: &mut C, token: StopToken) -> Answer
-        ensures { λ r. ⌜ Stops (end-value (now (self .entry))) (end-value (now (self .exit))) (meaning (now (carrier .entry))) (meaning (now (carrier .exit))) r ⌝ }
+        ensures rules { λ r. ⌜ Stops (end-value (now (self .entry))) (end-value (now (self .exit))) (meaning (now (carrier .entry))) (meaning (now (carrier .exit))) r ⌝ }
+        ensures exact { λ _. ⌜ Stop-step putting (now (carrier .entry)) (now (carrier .exit)) (end-value (now (self .entry))) ⌝ }
     {
         let StopToken { spent: () } = token;
         if let State::Out(_) = self.state {

@@ -7,6 +7,7 @@ pub mod end;
 mod frames;
 mod judging;
 pub mod opening;
+mod reading;
 pub mod reason;
 pub mod session;
 pub mod state;

@@ -3,6 +3,7 @@ ghost use mathlib.Core.Path.{_≡_};
 ghost use Rattle.ends.specs.Calls.{opened};
 ghost use Rattle.ends.specs.Openings.{OpensInitiator, OpensResponder};
 ghost use Rattle.ends.specs.Ends.{end-value};
+ghost use Rattle.ends.specs.Steps.{Opening-step};
 use super::answer::Answer;
 use super::calls::put;
 use super::calls::refusal;
@@ -64,7 +65,8 @@ impl End {
         carrier: &mut C,
         out: &mut [u8],
     ) -> Result<Opened, NotOpened<InitiatorNumbers>>
-        ensures { λ r. ⌜ OpensInitiator (params .values) numbers (meaning (now (carrier .entry))) (meaning (now (carrier .exit))) (now (out .entry)) (now (out .exit)) r ⌝ }
+        ensures rules { λ r. ⌜ OpensInitiator (params .values) numbers (meaning (now (carrier .entry))) (meaning (now (carrier .exit))) (now (out .entry)) (now (out .exit)) r ⌝ }
+        ensures exact { λ _. ⌜ Opening-step putting (now (carrier .entry)) (now (carrier .exit)) Role.Initiator (State.WaitAu2 (numbers .rb .value) (numbers .rc .value)) (meaning (now (carrier .entry)) .largest) (now (out .entry)) ⌝ }
     {
         if let Some(refusal) = refusal(carrier.max_len(), out.len() >= LONGEST_FRAME, None) {
             return Err(NotOpened { refusal, numbers });
@@ -91,7 +93,8 @@ impl End {
         carrier: &mut C,
         out: &mut [u8],
     ) -> Result<Opened, NotOpened<SessionNumber>>
-        ensures { λ r. ⌜ OpensResponder (params .values) ra (meaning (now (carrier .entry))) (meaning (now (carrier .exit))) (now (out .entry)) (now (out .exit)) r ⌝ }
+        ensures rules { λ r. ⌜ OpensResponder (params .values) ra (meaning (now (carrier .entry))) (meaning (now (carrier .exit))) (now (out .entry)) (now (out .exit)) r ⌝ }
+        ensures exact { λ _. ⌜ Opening-step putting (now (carrier .entry)) (now (carrier .exit)) Role.Responder (State.Listen (ra .value)) (meaning (now (carrier .entry)) .largest) (now (out .entry)) ⌝ }
     {
         if let Some(refusal) = refusal(carrier.max_len(), out.len() >= LONGEST_FRAME, None) {
             return Err(NotOpened {

@@ -15,3 +15,5 @@ pub mod Syncing
 pub mod Accepting
 pub mod Delivering
 pub mod Lawful
+mod Stepping
+mod Playing

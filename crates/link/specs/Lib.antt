@@ -1,3 +1,5 @@
 pub mod Times
 pub mod Runs
 pub mod Law
+pub mod Tells
+pub mod Seats

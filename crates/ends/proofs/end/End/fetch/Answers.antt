@@ -7,7 +7,9 @@ use lib.Dec.{leb}
 use lib.ListN.{length, take, length-take}
 use native.Mathlib.Nat.{sub-zero}
 use borrow.Author.Needs.{needs}
+use Rattle.std.specs.declared.option.Option.{Option}
 use Rattle.std.specs.declared.option.Option.the-variants.{Some, None}
+use Rattle.codec.specs.declared.role.Role.{Role}
 use Rattle.std.specs.declared.result.Result.the-variants.{Ok}
 use Rattle.codec.specs.Numbers.{Bytes}
 use Rattle.carrier.specs.Rules.{FetchSome}
@@ -17,7 +19,8 @@ use Rattle.ends.specs.Effects.{after-fetch, fetch-put, delivers}
 use Rattle.ends.specs.Puts.{longest-frame, put-length, put-into, front}
 use Rattle.ends.specs.Calls.{Puts, call-refusal, out-refusal, fetch-refusal}
 use Rattle.ends.specs.States.{status-of}
-use Rattle.ends.proofs.Calling.{fetches, put-laid}
+use Rattle.ends.specs.Steps.{Put-step, Fetch-stepped}
+use Rattle.ends.proofs.Calling.{fetches, laid-put}
 use Rattle.ends.proofs.Keeping.{kept-fetch}
 use Rattle.ends.proofs.end.End.fetch.Needs as need
 
@@ -48,16 +51,32 @@ returns-in-Ok-Some g c =
     sym (c .refusal .ensures
     ∙ ap₂ (λ k x. call-refusal (c .max-len-largest .result) k x) (c .has-room .ensures) (c .out-refusal .ensures)
     ∙ ap (λ k. call-refusal k (leb k (length buf) && leb longest-frame (length out)) (out-refusal (e .state))) (c .max-len-largest .ensures)) ∙ c .in-rest .is in
-    fetches e e′ m m′ buf buf′ out _ _ none
+    let role = ap (λ x. x .role) end ∙ kept .role in
+    let put = λ (P : Role → Option (List ℕ) → Type 0) (h : P (e′ .role) (front (c .take-delivered .result .1) (c .take-delivered .last .out))). laid-put (P (e .role)) p out _ (c .take-delivered .result .1) value after
+    (subst (λ w. P w (front (c .take-delivered .result .1) (c .take-delivered .last .out))) role h) in
+    let answer = c .answer-in-Ok-Some .ensures ∙ ap₂ (λ x y. record { refused = None; status = status-of (e′ .state); delivered = x; put = y }) place value in
     record {
-      came = Some n;
-      between = between;
-      fetched = came;
-      octets = (subst Bytes is (c .take-delivered .ensures .octets), long);
-      end = end;
-      carrier =
-          put-laid between m′ (e .role) p out _ (c .take-delivered .result .1) value after
-          (subst (λ w. Puts between m′ w (front (c .take-delivered .result .1) (c .take-delivered .last .out))) (ap (λ x. x .role) end ∙ kept .role) (c .put .ensures));
-      output = after;
-      answer = c .answer-in-Ok-Some .ensures ∙ ap₂ (λ x y. record { refused = None; status = status-of (e′ .state); delivered = x; put = y }) place value;
+      rules =
+          fetches e e′ m m′ buf buf′ out _ _ none
+          record {
+            came = Some n;
+            between = between;
+            fetched = came;
+            octets = (subst Bytes is (c .take-delivered .ensures .octets), long);
+            end = end;
+            carrier = put (λ w x. Puts between m′ w x) (c .put .ensures .rules);
+            output = after;
+            answer = answer;
+          };
+      exact =
+          subst (λ o. Fetch-stepped o (g .C·Carrier .putting) (g .C·Carrier .fetching) (c .args .carrier .now) (c .put .last .carrier) e e′ buf buf′ out (c .take-delivered .last .out) (c .answer-in-Ok-Some .result)) (sym none)
+          record {
+            came = Some n;
+            between = c .fetch .last .self;
+            fetched = search needs;
+            put = put (λ w x. Put-step (g .C·Carrier .putting) (c .fetch .last .self) (c .put .last .carrier) w x) (c .put .ensures .exact);
+            end = end;
+            output = after;
+            answer = answer;
+          };
     }
