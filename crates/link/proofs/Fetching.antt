@@ -76,7 +76,7 @@ module _ (from : Tel → Type 0) (e : EndValue) (a : Shape) where
   req-acts : (words : Words) (sent last : SequenceNumber) (synced : ExecutionCycle) (sn : SequenceNumber) (ec : ExecutionCycle) (b : Bool)
       → Running e sent last synced a → last .0 < sn .0 → synced .0 + e .count .0 ≤ ec .0 + e .values .mmax → from (tel model.req sn ec)
       → Acts (e .role) (e .values) from a (cond b (model.parts (tel model.req sn ec)) (model.answers (tel model.req sn ec)))
-        (cond b (released e reason.CounterUsedUp) (in-state e (state.Up words (number (sent .0 + 1)) sn synced)))
+      (cond b (released e reason.CounterUsedUp) (in-state e (state.Up words (number (sent .0 + 1)) sn synced)))
   req-acts words sent last synced sn ec true h n o f =
       record { can = (h .mode, good last synced model.req sn ec (h .floor) (h .count) (h .synced-is) n o, refl, f); looks = refl }
   req-acts words sent last synced sn ec false h n o f =

@@ -311,7 +311,12 @@ module _ (sheets : Sheets) (v : (r : Role) → InRange (sheets r)) (s : Role) (c
         not-too-old = bound (ticks-until s (j ▸ d)) (ticks-until s (b .i ▸ b .m)) (ticks-until s (z .from ▸ z .w)) (ticks-until (far s) (b .i ▸ b .m)) (ticks-until (far s) (z .from ▸ z .w)) (sheets s .mmax + sheets s .wait .0)
             (ticks-rise s (facts .0)) (ticks-rise s (later {m = d} (b .earlier))) (ticks-rise (far s) (facts .0))
             (omega (
-              arith, none, facts .1, mine-counted sheets s c j (d .before) (rd .0), other-counted sheets s c (z .from ▸ z .w) (z .w .after) rw, mine-counted sheets s c (z .from ▸ z .w) (z .w .after) rw,
+              arith,
+              none,
+              facts .1,
+              mine-counted sheets s c j (d .before) (rd .0),
+              other-counted sheets s c (z .from ▸ z .w) (z .w .after) rw,
+              mine-counted sheets s c (z .from ▸ z .w) (z .w .after) rw,
               other-counted sheets s c (b .i ▸ b .m) (b .m .after) rm,
             ));
       }

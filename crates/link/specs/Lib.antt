@@ -3,3 +3,4 @@ pub mod Runs
 pub mod Law
 pub mod Tells
 pub mod Seats
+pub mod Examples

@@ -7,5 +7,4 @@ pub mod Calls
 pub mod Scripts
 pub mod Writing
 pub mod Laws
-pub mod Examples
 pub mod FirstFault

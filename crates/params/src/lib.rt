@@ -1,7 +1,6 @@
 // What a railway writes: the sheet with a parameter set for each end, and the script of calls.
 pub mod call;
 pub mod columns;
-pub mod examples;
 pub mod line;
 pub mod made;
 pub mod params;
