@@ -7,9 +7,17 @@ use rehearsal::rehearsing::rehearse;
 use std::error::AnyError;
 use std::fs;
 
+fn read(rt: &LibcRuntime, file: &str) -> Result<Vec<u8>, AnyError> {
+    match fs::read(rt, file) {
+        Ok(bytes) => Ok(bytes),
+        Err(error) => Err(format!(rt.alloc(), "cannot read the file {file}: {error}")?.into()),
+    }
+}
+
+// Whether there was a listing to print.
 fn run(rt: &LibcRuntime) -> Result<bool, AnyError> {
-    let sheet = fs::read(rt, "sheet")?;
-    let script = fs::read(rt, "script")?;
+    let sheet = read(rt, "sheet")?;
+    let script = read(rt, "script")?;
     match rehearse(rt.alloc(), sheet.as_slice(), script.as_slice()) {
         Ok(listing) => rt.print(listing)?,
         Err(RehearsalError::Fault(fault)) => {
