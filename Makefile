@@ -5,7 +5,7 @@
 
 rehearse:
 	@rt check rehearse
-	@cd examples/first && ../../target/bin/rehearse
+	@cd examples/first && $(CURDIR)/target/bin/rehearse
 
 inspect:
 	@rt check inspect
