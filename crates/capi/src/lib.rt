@@ -1,4 +1,6 @@
 // Falldate for C: what `capi/falldate.h` declares.
+#![tactic(auto)]
+
 pub mod measuring;
 pub mod reading;
 pub mod rehearsing;

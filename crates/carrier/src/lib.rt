@@ -1,5 +1,7 @@
 // A carrier moves byte strings between the initiator's side and the responder's.
 // The trait says what a carrier means and which rules it keeps; the modules have carriers that keep them.
+#![tactic(auto)]
+
 ghost use Rattle.std.specs.Prelude.{◌≡◌, ℕ, ◌≤◌, List, Option, Result};
 ghost use Rattle.terms.specs.declared.refusal.Refusal.{Refusal};
 ghost use Rattle.terms.specs.declared.role.Role.{Role};

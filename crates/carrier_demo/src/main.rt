@@ -1,5 +1,7 @@
 // Runs a redundant pair over a wire that is nearly full and one that loses, delays and repeats, and prints what each call answers;
 // then writes and reads some packets.
+#![tactic(auto)]
+
 mod packets;
 
 use carrier::fault::{Choice, FaultWire};

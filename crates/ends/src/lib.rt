@@ -1,4 +1,6 @@
 // The ends of a connection: how each opens, ticks, fetches and stops.
+#![tactic(auto)]
+
 pub mod answer;
 mod arrival;
 pub mod calls;

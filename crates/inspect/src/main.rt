@@ -1,4 +1,6 @@
 // Reads a captured session from standard input and says of each line what it is.
+#![tactic(auto)]
+
 mod again;
 
 use again::{frame_again, packet_again};

@@ -1,2 +1,4 @@
 // Packets: the envelope in which the redundancy layer carries a frame.
+#![tactic(auto)]
+
 pub mod packet;

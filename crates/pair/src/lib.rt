@@ -1,4 +1,6 @@
 // A carrier over two carriers: each frame goes out on both, and comes out once.
+#![tactic(auto)]
+
 ghost use Rattle.std.specs.Prelude.{◌≡◌, ℕ, ◌+◌, ◌<◌, ◌≤◌, length, replicate, None};
 ghost use Rattle.terms.specs.declared.role.Role.{Role};
 ghost use Rattle.packets.specs.Packets.{packet_bytes};

@@ -1,4 +1,6 @@
 // What a railway writes: the sheet with a parameter set for each end, and the script of calls.
+#![tactic(auto)]
+
 pub mod call;
 pub mod columns;
 pub mod line;

@@ -1,5 +1,7 @@
 // Reads many good and faulty files from standard input and prints what becomes of each.
 // A case is `S` (a sheet) or `T` (a script), the file's bytes, and `|`; a line feed before the letter is passed over.
+#![tactic(auto)]
+
 use anyhow::anyhow;
 use params::call::{Action, Call};
 use params::params::Params;

@@ -1,5 +1,7 @@
 // Reads the files `sheet` and `script` in the current folder, and prints the listing of their rehearsal.
 // A faulty file gives its one line and status 1.
+#![tactic(auto)]
+
 use anyhow::anyhow;
 use rehearsal::faults::FaultLine;
 use rehearsal::rehearsing::{RehearsalError, rehearse};

@@ -1,4 +1,6 @@
 // Rehearses the examples that its arguments name, each a folder with a sheet, a script and the listing that they give, and compares.
+#![tactic(auto)]
+
 use anyhow::anyhow;
 use rehearsal::faults::FaultLine;
 use rehearsal::rehearsing::{RehearsalError, rehearse};
