@@ -18,8 +18,8 @@ returns-in-Ok-Some g c =
       answer = Ok (Some n);
       memory = memory;
       asked = (h, x);
-      value = c.take-frame.ensures.value ∙ ap (λ (p : List ℕ). taken_of (gives c.args.most c.args.last p)) e;
-      buffer = c.take-frame.ensures.buffer ∙ ap (λ (p : List ℕ). written c.args.buf.now (gives c.args.most c.args.last p)) e;
+      value = c.take_frame.ensures.value ∙ ap (λ (p : List ℕ). taken_of (gives c.args.most c.args.last p)) e;
+      buffer = c.take_frame.ensures.buffer ∙ ap (λ (p : List ℕ). written c.args.buf.now (gives c.args.most c.args.last p)) e;
     }
 
 pub returns-in-Ok-None : goal.returns-in-Ok-None

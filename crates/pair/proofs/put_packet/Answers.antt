@@ -5,8 +5,8 @@ use Rattle.carrier.specs.Rules.{PutRules, greatest_length}
 use Rattle.pair.proofs.Wraps.{within, wrapped_length, wrapped_part}
 use Rattle.pair.proofs.put_packet.Goals as goal
 
-pub slice-bounds-put-end : goal.slice-bounds-put-end
-slice-bounds-put-end g c =
+pub slice_bounds-put-end : goal.slice_bounds-put-end
+slice_bounds-put-end g c =
     let q : PacketValue = record { number = c.args.number.0; frame = c.args.frame.now } in
     let e = wrapped_length q c.args.cable (replicate greatest_length 0) c.requires refl c.in-Ok.n c.in-Ok.ensures.answer in
     let w = within q c.args.cable (replicate greatest_length 0) c.requires refl in

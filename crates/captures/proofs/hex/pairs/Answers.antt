@@ -9,15 +9,15 @@ loop-i-preserved c =
     let text = c.args.text.now in
     let i = c.loop-i.i in
     c.loop-i.invariant
-    ∙ decode_on text (vec_items c.loop-i.bytes) i c.in-ok-b.b (omega arith) (sym c.byte.ensures ∙ c.in-ok-b.was)
-    ∙ ap (λ l. joined l (pairs_value (drop (2 * (i + 1)) text))) (sym c.in-ok-push.ensures.items)
+    ∙ decode_on text (vec_items c.loop-i.bytes) i c.in_ok-b.b (omega arith) (sym c.byte.ensures ∙ c.in_ok-b.was)
+    ∙ ap (λ l. joined l (pairs_value (drop (2 * (i + 1)) text))) (sym c.in_ok-push.ensures.items)
 
-pub returns-in-err-b : goal.returns-in-err-b
-returns-in-err-b c =
+pub returns-in_err-b : goal.returns-in_err-b
+returns-in_err-b c =
     let text = c.args.text.now in
     let p = err_from_is_err_and c.from-residual.result c.from-residual.ensures.1 in
     rw (p.1, p.2)
-    (c.loop-i.invariant ∙ decode_stop text (vec_items c.loop-i.bytes) c.loop-i.i _ (omega arith) (sym c.byte.ensures ∙ c.in-err-b.was))
+    (c.loop-i.invariant ∙ decode_stop text (vec_items c.loop-i.bytes) c.loop-i.i _ (omega arith) (sym c.byte.ensures ∙ c.in_err-b.was))
 
 pub returns-then-text-ne0 : goal.returns-then-text-ne0
 returns-then-text-ne0 c =

@@ -16,4 +16,4 @@ stripped s p None h = tested (take (length p) s) p false h
 stripped s p (Some x) h = (tested (take (length p) s) p true h.0, h.1)
 
 pub returns : goal.returns
-returns c = stripped c.args.line.now c.args.word.now c.strip-prefix.result c.strip-prefix.ensures.cases
+returns c = stripped c.args.line.now c.args.word.now c.strip_prefix.result c.strip_prefix.ensures.cases

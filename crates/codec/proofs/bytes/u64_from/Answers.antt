@@ -5,4 +5,4 @@ use Rattle.codec.proofs.bytes.u64_from.Goals as goal
 
 pub returns : goal.returns
 unfolding number spell
-returns c = c.from-be-bytes.ensures ∙ (omega arith) ∙ ap (number 0) (spelled 8 c.args.s.now c.requires)
+returns c = c.from_be_bytes.ensures ∙ (omega arith) ∙ ap (number 0) (spelled 8 c.args.s.now c.requires)

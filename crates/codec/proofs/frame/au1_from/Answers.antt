@@ -10,5 +10,5 @@ pub returns-in-0 : goal.returns-in-0
 returns-in-0 c =
     let body = c.args.body.now in
     let fixed : bytes_eq (take 4 body) fixed_bytes ≡ true = begins fixed_bytes body (omega arith) (search rules) in
-    let value = c.u64-from.ensures ∙ ap (number 0) (take_rest body 4) in
+    let value = c.u64_from.ensures ∙ ap (number 0) (take_rest body 4) in
     record { answer = simp (fixed, value); parts = tt }

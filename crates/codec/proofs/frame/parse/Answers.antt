@@ -9,7 +9,7 @@ returns c =
     let s = c.args.s.now in
     record {
       answer =
-          c.read-typed.ensures.answer ∙ ap (read_typed c.in-Some.kind c.in-Some.towards most_data) (take_rest s 1)
+          c.read_typed.ensures.answer ∙ ap (read_typed c.in-Some.kind c.in-Some.towards most_data) (take_rest s 1)
           ∙ sym (frame_is s c.in-Some.kind c.in-Some.towards c.in-Some.ensures);
-      parts = c.read-typed.ensures.parts;
+      parts = c.read_typed.ensures.parts;
     }

@@ -51,7 +51,7 @@ returns c =
     let first : c.fill.new.out ≡ overlay m out = c.fill.ensures.after ∙ ap (λ f. put_after (((0x0A + f) ∷ []) ++ t) out) c.flag.ensures ∙ laid_whole m out (omega arith) in
     let part : 1 + c.size-n.result - 0 ≡ length m = omega arith in
     let front = laid_front m out c.fill.new.out (1 + c.size-n.result - 0) part first in
-    let code = c.copy-from-slice.ensures.after ∙ c.to-be-bytes.ensures ∙ big_endian _ ∙ ap (bytes 8) (c.code-code.ensures ∙ ap (code_of word) front) in
+    let code = c.copy_from_slice.ensures.after ∙ c.to_be_bytes.ensures ∙ big_endian _ ∙ ap (bytes 8) (c.code-code.ensures ∙ ap (code_of word) front) in
     let after = laid m (bytes 8 (code_of word m)) out c.fill.new.out _ (1 + c.size-n.result) (1 + c.size-n.result + 8 - (1 + c.size-n.result)) first code n (omega arith) (omega arith) in
     record {
       answer = simp (whole, room, short);

@@ -10,6 +10,6 @@ returns-in-len3 c =
     let body = c.args.body.now in
     let long : length body ≡ 3 = search rules in
     let three : eqb (length body) 3 ≡ true = eq-eqb (length body) 3 long in
-    let period : c.from-be-bytes.result ≡ number 0 (drop 1 body) =
-    c.from-be-bytes.ensures ∙ (omega arith) ∙ ap (number 0) (spell_take 2 1 body (omega arith) ∙ take_all 2 (drop 1 body) (omega (arith, length-drop 1 body))) in
+    let period : c.from_be_bytes.result ≡ number 0 (drop 1 body) =
+    c.from_be_bytes.ensures ∙ (omega arith) ∙ ap (number 0) (spell_take 2 1 body (omega arith) ∙ take_all 2 (drop 1 body) (omega (arith, length-drop 1 body))) in
     simp (three, period)

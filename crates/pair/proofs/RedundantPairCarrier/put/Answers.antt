@@ -21,9 +21,9 @@ pub returns : goal.returns
 returns g c =
     let p = c.args.self.now in
     let n : Meaning = g.N.Carrier.meaning p.normal in
-    let n' : Meaning = g.N.Carrier.meaning c.put-both.new.normal in
+    let n' : Meaning = g.N.Carrier.meaning c.put_both.new.normal in
     let r : Meaning = g.R.Carrier.meaning p.redundant in
-    let r' : Meaning = g.R.Carrier.meaning c.put-both.new.redundant in
+    let r' : Meaning = g.R.Carrier.meaning c.put_both.new.redundant in
     let s : List ℕ = c.args.s.now in
     let from = c.args.from in
     let num = c.advance-number.result.0 in
@@ -32,9 +32,9 @@ returns g c =
     let limit-n = g.met.N.Carrier.limit p.normal in
     let short : length s + packet_overhead ≤ greatest_length = omega arith in
     let fits : num < 2 ^ 16 = omega arith in
-    let does_n : List ℕ → Result Keeping Refusal → Type 0 = λ x a. g.N.Carrier.putting p.normal from x a c.put-both.new.normal in
-    let does_r : List ℕ → Result Keeping Refusal → Type 0 = λ x a. g.R.Carrier.putting p.redundant from x a c.put-both.new.redundant in
-    let h : BothPut (λ x a. PutRules n n' from x a × does_n x a) (λ x a. PutRules r r' from x a × does_r x a) q c.put-both.result = c.put-both.ensures in
+    let does_n : List ℕ → Result Keeping Refusal → Type 0 = λ x a. g.N.Carrier.putting p.normal from x a c.put_both.new.normal in
+    let does_r : List ℕ → Result Keeping Refusal → Type 0 = λ x a. g.R.Carrier.putting p.redundant from x a c.put_both.new.redundant in
+    let h : BothPut (λ x a. PutRules n n' from x a × does_n x a) (λ x a. PutRules r r' from x a × does_r x a) q c.put_both.result = c.put_both.ensures in
     record {
       rules = subst (λ (x : Keeping). PutRules (pair_meaning n r) (pair_meaning n' r') from s (Ok x)) (sym h.either)
           (pair_put n n' r r' from (packet_bytes q Normal) (packet_bytes q Redundant) s le
@@ -42,7 +42,7 @@ returns g c =
           h.first h.second h.normal.0 h.redundant.0);
       exact = record {
         fits = le;
-        both = subst (λ (x : ℕ). BothPut does_n does_r (record { number = x; frame = s }) c.put-both.result) c.advance-number.ensures.value
+        both = subst (λ (x : ℕ). BothPut does_n does_r (record { number = x; frame = s }) c.put_both.result) c.advance-number.ensures.value
             (record { first = h.first; second = h.second; normal = h.normal.1; redundant = h.redundant.1; either = h.either });
         counters = c.advance-number.ensures.after;
       };

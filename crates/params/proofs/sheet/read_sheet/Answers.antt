@@ -9,6 +9,6 @@ use Rattle.params.proofs.sheet.read_sheet.Goals as goal
 pub returns : goal.returns
 returns c =
     let text = c.args.text.now in
-    let r = c.read-rows.result in
+    let r = c.read_rows.result in
     let is : sheet_values r ≡ read_sheet text = search rules in
     record { value = is; inside = sheet_inside r; first = sheet_first_fault text r is; rewritten = sheet_rewritten text r is }

@@ -10,7 +10,7 @@ loop-byte-preserved c =
     let xs = c.args.got.now in
     let i = c.loop-byte.byte-index in
     let one = c.push.ensures.ascii c.shown.ensures.bound ∙ ap (λ x. x ∷ []) c.shown.ensures.value in
-    pushed _ c.loop-byte.invariant c.in-ok-push.was c.push.ensures.bytes
+    pushed _ c.loop-byte.invariant c.in_ok-push.was c.push.ensures.bytes
     ∙ ap (λ x. map shown_byte (take i xs) ++ x) one
     ∙ sym (ap (map shown_byte) (take_more xs i 0 c.loop-byte-test.true) ∙ map_push shown_byte (take i xs) (get_or xs i 0))
 

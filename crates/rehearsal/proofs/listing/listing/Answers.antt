@@ -10,8 +10,8 @@ loop-i-preserved c =
     let cs = c.args.calls.now in
     let ls = c.args.lines.now in
     let i = c.loop-i.i in
-    pushed _ c.loop-i.invariant c.in-ok-push-str.was c.push-str.ensures.bytes
-    ∙ ap (λ x. listing_text (take i cs) (take i ls) ++ x) (c.as-str.ensures.value ∙ c.in-ok-entry.ensures)
+    pushed _ c.loop-i.invariant c.in_ok-push_str.was c.push_str.ensures.bytes
+    ∙ ap (λ x. listing_text (take i cs) (take i ls) ++ x) (c.as_str.ensures.value ∙ c.in_ok-entry.ensures)
     ∙ listing_more cs ls i c.index-calls-i.result c.index-lines-i.result c.loop-i-test.true c.requires c.index-calls-i.is c.index-lines-i.is
 
 pub returns : goal.returns

@@ -9,22 +9,22 @@ use Rattle.rehearsal.proofs.rehearsing.perform.Goals as goal
 
 pub listing-requires : goal.listing-requires
 listing-requires c =
-    ap length c.as-slice.ensures.value
+    ap length c.as_slice.ensures.value
     ∙ as_many c.args.sheet.now _ _ _ c.args.calls.now (vec_items c.in-Ok.lines) c.in-Ok.ensures.tells
 
 pub returns-in-Ok : goal.returns-in-Ok
 returns-in-Ok c =
     let calls = c.args.calls.now in
     let ls = vec_items c.in-Ok.lines in
-    IfOk-weaker c.listing.result (λ t. string_bytes t ≡ listing_text calls c.as-slice.result.now) (λ t. Performed c.args.sheet.now calls (string_bytes t))
+    IfOk-weaker c.listing.result (λ t. string_bytes t ≡ listing_text calls c.as_slice.result.now) (λ t. Performed c.args.sheet.now calls (string_bytes t))
     (λ t e. record {
       lines = ls;
-      store = c.in-ok-wire.wire.store;
-      new_wire = c.in-ok-wire.ensures;
+      store = c.in_ok-wire.wire.store;
+      new_wire = c.in_ok-wire.ensures;
       after = wire_meaning c.run.new.carrier.store;
-      run = subst (λ n. RunMade c.args.sheet.now n (wire_meaning c.in-ok-wire.wire.store) (wire_meaning c.run.new.carrier.store) calls (map told_by ls))
+      run = subst (λ n. RunMade c.args.sheet.now n (wire_meaning c.in_ok-wire.wire.store) (wire_meaning c.run.new.carrier.store) calls (map told_by ls))
           (λ i. record { ra = record { value = c.new-2.ensures i }; rb = record { value = c.new-3.ensures i }; rc = record { value = c.new-4.ensures i } })
           c.in-Ok.ensures.tells;
-      listed = e ∙ ap (listing_text calls) c.as-slice.ensures.value;
+      listed = e ∙ ap (listing_text calls) c.as_slice.ensures.value;
     })
     c.listing.ensures

@@ -17,17 +17,17 @@ broken : (sheet script : List ℕ) (v : Values × Values) (P : Type 0) (e : Scri
 broken sheet script v P (Fault f) h a = subst (λ x. Faulty x (read_script script) f) (sym h) a
 broken sheet script v P NoMemory h a = ap is_ok h
 
-pub returns-in-err-calls : goal.returns-in-err-calls
-returns-in-err-calls c = let p = err_from_is_err_and c.from-residual-in-err-calls.result c.from-residual-in-err-calls.ensures.1 in rw (p.1, p.2) (broken c.args.sheet.now c.args.script.now _ _ c.in-err-calls.field-0.0 (sym c.in-ok-sheet.ensures.value) c.in-err-calls.ensures.value)
+pub returns-in_err-calls : goal.returns-in_err-calls
+returns-in_err-calls c = let p = err_from_is_err_and c.from-residual-in_err-calls.result c.from-residual-in_err-calls.ensures.1 in rw (p.1, p.2) (broken c.args.sheet.now c.args.script.now _ _ c.in_err-calls.field-0.0 (sym c.in_ok-sheet.ensures.value) c.in_err-calls.ensures.value)
 
-pub returns-in-err-text : goal.returns-in-err-text
-returns-in-err-text c = let p = err_from_is_err_and c.from-residual-in-err-text.result c.from-residual-in-err-text.ensures.1 in rw (p.1, p.2) (ap is_ok (sym c.in-ok-sheet.ensures.value))
+pub returns-in_err-text : goal.returns-in_err-text
+returns-in_err-text c = let p = err_from_is_err_and c.from-residual-in_err-text.result c.from-residual-in_err-text.ensures.1 in rw (p.1, p.2) (ap is_ok (sym c.in_ok-sheet.ensures.value))
 
 pub returns : goal.returns
 returns c = record {
-  sheet = c.in-ok-sheet.sheet;
-  calls = vec_items c.in-ok-calls.calls;
-  sheet_read = sym c.in-ok-sheet.ensures.value;
-  calls_read = c.in-ok-calls.ensures.value;
-  performed = subst (λ x. Performed c.in-ok-sheet.sheet x (string_bytes c.in-ok-text.text)) c.as-slice.ensures.value c.in-ok-text.ensures;
+  sheet = c.in_ok-sheet.sheet;
+  calls = vec_items c.in_ok-calls.calls;
+  sheet_read = sym c.in_ok-sheet.ensures.value;
+  calls_read = c.in_ok-calls.ensures.value;
+  performed = subst (λ x. Performed c.in_ok-sheet.sheet x (string_bytes c.in_ok-text.text)) c.as_slice.ensures.value c.in_ok-text.ensures;
 }

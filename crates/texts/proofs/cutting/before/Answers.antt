@@ -3,8 +3,8 @@ use Rattle.texts.specs.Pieces.{before}
 use Rattle.texts.proofs.Cuts.{before_take, before_short}
 use Rattle.texts.proofs.cutting.before.Goals as goal
 
-pub slice-bounds-result-end : goal.slice-bounds-result-end
-slice-bounds-result-end c = omega (arith, before_short c.args.c c.args.s.now, c.find.ensures)
+pub slice_bounds-result-end : goal.slice_bounds-result-end
+slice_bounds-result-end c = omega (arith, before_short c.args.c c.args.s.now, c.find.ensures)
 
 pub returns : goal.returns
 returns c =

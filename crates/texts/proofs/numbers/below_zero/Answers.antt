@@ -7,19 +7,19 @@ use Rattle.texts.specs.Numbers.{read_number}
 use Rattle.texts.proofs.Digits.{below_is}
 use Rattle.texts.proofs.numbers.below_zero.Goals as goal
 
-pub returns-in-err-n : goal.returns-in-err-n
-returns-in-err-n c =
+pub returns-in_err-n : goal.returns-in_err-n
+returns-in_err-n c =
     let s = c.args.s.now in
     let r = c.args.range in
     let p = err_from_is_err_and c.from-residual.result c.from-residual.ensures.1 in
     let first : get_or s 0 0 ≡ 45 = search rules in
     p.1 ∙ ap (λ w. Err w) p.2
-    ∙ sym (below_is s r first ∙ ap (λ x. then x (λ n. Ok (neg_ℤ (pos n)))) (ap (read_number r) (sym (take_rest s 1)) ∙ sym c.number.ensures.value ∙ c.in-err-n.was))
+    ∙ sym (below_is s r first ∙ ap (λ x. then x (λ n. Ok (neg_ℤ (pos n)))) (ap (read_number r) (sym (take_rest s 1)) ∙ sym c.number.ensures.value ∙ c.in_err-n.was))
 
-pub returns-in-ok-n : goal.returns-in-ok-n
-returns-in-ok-n c =
+pub returns-in_ok-n : goal.returns-in_ok-n
+returns-in_ok-n c =
     let s = c.args.s.now in
     let r = c.args.range in
     let first : get_or s 0 0 ≡ 45 = search rules in
-    let is = ap (read_number r) (sym (take_rest s 1)) ∙ sym c.number.ensures.value ∙ c.in-ok-n.was in
+    let is = ap (read_number r) (sym (take_rest s 1)) ∙ sym c.number.ensures.value ∙ c.in_ok-n.was in
     ap (λ z. Ok z) (omega (arith, ints)) ∙ sym (below_is s r first ∙ ap (λ x. then x (λ n. Ok (neg_ℤ (pos n)))) is)

@@ -9,5 +9,5 @@ returns c =
     let len = c.place-start.result.len in
     let n : c.place-start.result.start + 2 + len - (c.place-start.result.start + 2) ≡ len = omega arith in
     let z : len - 0 ≡ len = omega arith in
-    let e : c.copy-from-slice.new.self ≡ get_or (held c.args.self.now) c.args.k [] = cc in
+    let e : c.copy_from_slice.new.self ≡ get_or (held c.args.self.now) c.args.k [] = cc in
     record { value = c.place-start.ensures.len; written = cc }

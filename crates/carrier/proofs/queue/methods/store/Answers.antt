@@ -4,6 +4,6 @@ use Rattle.carrier.proofs.queue.methods.store.Goals as goal
 
 pub returns : goal.returns
 returns c = record {
-  items = let e = with_items_is c.args.memory.now c.store-slice.new.memory (omega arith) in cc;
+  items = let e = with_items_is c.args.memory.now c.store_slice.new.memory (omega arith) in cc;
   len = refl;
 }

@@ -9,7 +9,7 @@ returns-in-Au1 c =
     let out = c.args.out.now in
     record {
       after =
-          c.lay.ensures ∙ ap (λ l. put_after (2 ∷ (fixed_bytes ++ (l ++ []))) out) (c.to-be-bytes.ensures ∙ big_endian c.in-Au1.rb)
+          c.lay.ensures ∙ ap (λ l. put_after (2 ∷ (fixed_bytes ++ (l ++ []))) out) (c.to_be_bytes.ensures ∙ big_endian c.in-Au1.rb)
           ∙ ap (λ f. put_after (bytes_of (frame_value f)) out) (sym c.in-Au1.is);
       fits = search rules;
     }
@@ -19,7 +19,7 @@ returns-in-Au2 c =
     let out = c.args.out.now in
     record {
       after =
-          c.lay-in-Au2.ensures ∙ ap (λ l. put_after (5 ∷ (fixed_bytes ++ (ignored_text ++ l))) out) (c.to-be-bytes-in-Au2.ensures ∙ big_endian c.in-Au2.ra-xor-rb)
+          c.lay-in-Au2.ensures ∙ ap (λ l. put_after (5 ∷ (fixed_bytes ++ (ignored_text ++ l))) out) (c.to_be_bytes-in-Au2.ensures ∙ big_endian c.in-Au2.ra_xor_rb)
           ∙ ap (λ f. put_after (bytes_of (frame_value f)) out) (sym c.in-Au2.is);
       fits = search rules;
     }

@@ -7,7 +7,7 @@ use Rattle.codec.proofs.frame.Frame.read.Goals as goal
 pub returns : goal.returns
 returns c =
     let s = c.args.s.now in
-    let bytes = Bytes-all s (λ i h. omega (arith, c.type-inv.s i)) in
+    let bytes = Bytes-all s (λ i h. omega (arith, c.type_inv.s i)) in
     let is = sym c.parse.ensures.answer in
     record {
       answer = c.parse.ensures.answer;

@@ -9,5 +9,5 @@ returns c =
     let s = c.args.t.now in
     record {
       answer = c.parse.ensures;
-      judged = subst (TelegramJudged s) (sym c.parse.ensures) (judged s (Bytes-all s (λ i h. omega (arith, c.type-inv.t i))));
+      judged = subst (TelegramJudged s) (sym c.parse.ensures) (judged s (Bytes-all s (λ i h. omega (arith, c.type_inv.t i))));
     }

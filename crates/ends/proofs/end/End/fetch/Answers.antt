@@ -39,8 +39,8 @@ returns-in-Ok-Some g c =
     let kept = kept_fetch e way in
     let none : fetch_refusal e m.largest (length buf) (length out) ≡ None =
     sym (c.refusal.ensures
-    ∙ ap₂ (λ k x. call_refusal c.max-len-largest.result k x) c.has-room.ensures c.out-refusal.ensures
-    ∙ ap (λ k. call_refusal k (leb k (length buf) && leb longest_frame (length out)) (out_refusal e.state)) c.max-len-largest.ensures) ∙ c.in-default.is in
+    ∙ ap₂ (λ k x. call_refusal c.max_len-largest.result k x) c.has_room.ensures c.out_refusal.ensures
+    ∙ ap (λ k. call_refusal k (leb k (length buf) && leb longest_frame (length out)) (out_refusal e.state)) c.max_len-largest.ensures) ∙ c.in_default.is in
     let role = ap (λ x. x.role) end ∙ kept.role in
     let put = λ (P : Role → Option (List ℕ) → Type 0) (h : P e'.role (front c.take-delivered.result.1 c.take-delivered.new.out)). laid_put (P e.role) p out _ c.take-delivered.result.1 value after
     (subst (λ w. P w (front c.take-delivered.result.1 c.take-delivered.new.out)) role h) in

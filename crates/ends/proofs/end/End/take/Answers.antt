@@ -10,5 +10,5 @@ returns c =
       value = search rules;
       after = search rules;
       short = search rules;
-      octets = Bytes-all c.args.s.now (λ i h. omega (arith, c.type-inv.s i));
+      octets = Bytes-all c.args.s.now (λ i h. omega (arith, c.type_inv.s i));
     }

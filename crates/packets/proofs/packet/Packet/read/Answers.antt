@@ -8,5 +8,5 @@ use Rattle.packets.proofs.packet.Packet.read.Goals as goal
 pub returns : goal.returns
 returns c =
     let s = c.args.s.now in
-    let j : Judged s (packet_values c.parse.result) = subst (Judged s) (sym c.parse.ensures) (judged s (λ i. omega (arith, c.type-inv.s i))) in
+    let j : Judged s (packet_values c.parse.result) = subst (Judged s) (sym c.parse.ensures) (judged s (λ i. omega (arith, c.type_inv.s i))) in
     record { answer = c.parse.ensures; judged = j; again = again_of s (packet_values c.parse.result) j }

@@ -17,7 +17,7 @@ loop-b-preserved c =
     let i = c.loop-b.b-index in
     let p = polynomial c.args.self in
     c.feed-reg.ensures ∙ ap (λ r. fed p r (get_or s i 0)) c.loop-b.invariant
-    ∙ sym (remainder_push p (low c.args.self) (take i s) (get_or s i 0) (omega (arith, c.type-inv.bytes i)))
+    ∙ sym (remainder_push p (low c.args.self) (take i s) (get_or s i 0) (omega (arith, c.type_inv.bytes i)))
     ∙ ap (remainder p) (sym (take_more s i 0 (omega arith)))
 
 pub returns : goal.returns

@@ -7,12 +7,12 @@ use Rattle.texts.proofs.writing.HexDisplay.fmt.Goals as goal
 pub returns-clause-writes : goal.returns-clause-writes
 returns-clause-writes g c = λ plain ok.
     subst (λ bs. HasWritten g.W.Write.write_str_gives c.args.f.now bs c.write.new.self)
-    (glyphs c.hex-char-a.ensures.value c.hex-char-a.ensures.ascii
-    (glyphs c.hex-char-b.ensures.value c.hex-char-b.ensures.ascii
-    (glyphs c.hex-char-c.ensures.value c.hex-char-c.ensures.ascii
-    (glyphs c.hex-char-d.ensures.value c.hex-char-d.ensures.ascii
-    (glyphs c.hex-char-e.ensures.value c.hex-char-e.ensures.ascii
-    (glyphs c.hex-char-g.ensures.value c.hex-char-g.ensures.ascii
-    (glyphs c.hex-char-h.ensures.value c.hex-char-h.ensures.ascii
-    (glyph (c.hex-char-i.ensures.value ∙ ap (λ n. hex_char (n % 16)) (sym (div-one c.args.self.now.0))) c.hex-char-i.ensures.ascii))))))))
+    (glyphs c.hex_char-a.ensures.value c.hex_char-a.ensures.ascii
+    (glyphs c.hex_char-b.ensures.value c.hex_char-b.ensures.ascii
+    (glyphs c.hex_char-c.ensures.value c.hex_char-c.ensures.ascii
+    (glyphs c.hex_char-d.ensures.value c.hex_char-d.ensures.ascii
+    (glyphs c.hex_char-e.ensures.value c.hex_char-e.ensures.ascii
+    (glyphs c.hex_char-g.ensures.value c.hex_char-g.ensures.ascii
+    (glyphs c.hex_char-h.ensures.value c.hex_char-h.ensures.ascii
+    (glyph (c.hex_char-i.ensures.value ∙ ap (λ n. hex_char (n % 16)) (sym (div-one c.args.self.now.0))) c.hex_char-i.ensures.ascii))))))))
     (c.write.ensures.writes plain ok)
