@@ -2,7 +2,7 @@
 // then writes and reads some packets.
 #![tactic(auto)]
 
-mod packets;
+mod packed;
 
 use carrier::fault::{Choice, FaultWire};
 use carrier::fifo::FifoWire;

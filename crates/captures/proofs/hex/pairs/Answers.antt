@@ -15,7 +15,7 @@ loop-i-preserved c =
 pub returns-in_err-b : goal.returns-in_err-b
 returns-in_err-b c =
     let text = c.args.text.now in
-    let p = err_from_is_err_and c.from-residual.result c.from-residual.ensures.1 in
+    let p = err_from_is_err_and c.from_residual.result c.from_residual.ensures.1 in
     rw (p.1, p.2)
     (c.loop-i.invariant ∙ decode_stop text (vec_items c.loop-i.bytes) c.loop-i.i _ (omega arith) (sym c.byte.ensures ∙ c.in_err-b.was))
 

@@ -17,7 +17,7 @@ returns g c = record {
 
 pub returns-in_err-lines : goal.returns-in_err-lines
 returns-in_err-lines g c =
-    let p = err_from_is_err_and c.from-residual-in_err-lines.result c.from-residual-in_err-lines.ensures.1 in
+    let p = err_from_is_err_and c.from_residual-in_err-lines.result c.from_residual-in_err-lines.ensures.1 in
     let h = c.in_err-lines.ensures in
     rw (p.1, p.2) record {
       tells = record {

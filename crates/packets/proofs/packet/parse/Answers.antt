@@ -25,7 +25,7 @@ begun c = record {
 pub returns-in_err-frame : goal.returns-in_err-frame
 returns-in_err-frame c =
     let b = begun (goal.at.returns-in_err-frame c).After-frame_in in
-    let p = err_from_is_err_and c.from-residual-in_err-frame.result c.from-residual-in_err-frame.ensures.1 in
+    let p = err_from_is_err_and c.from_residual-in_err-frame.result c.from_residual-in_err-frame.ensures.1 in
     ap packet_values p.1 ∙ ap Err p.2
     ∙ sym (read_refused c.args.s.now c.in_ok-kind.kind b.six b.counts b.type c.in_err-frame.field-0.0
     (ap (frame_in c.in_ok-kind.kind) (sym b.body) ∙ c.in_err-frame.ensures))

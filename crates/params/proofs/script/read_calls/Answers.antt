@@ -13,7 +13,7 @@ returns-then-is_empty c =
 
 pub returns-in_err-call : goal.returns-in_err-call
 returns-in_err-call c =
-    let p = err_from_is_err_and c.from-residual.result c.from-residual.ensures.1 in
+    let p = err_from_is_err_and c.from_residual.result c.from_residual.ensures.1 in
     rw (p.1, p.2)
     (reading_stops (all_said c.loop-line.calls) c.loop-line.line c.loop-line.rest.now c.args.text.now c.loop-line.invariant
     c.loop-line-test.true (eqb-false _ _ (sym c.if-is_empty.ensures)) _ c.in_err-call.ensures)

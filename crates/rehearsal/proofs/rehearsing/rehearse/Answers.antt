@@ -18,10 +18,10 @@ broken sheet script v P (Fault f) h a = subst (λ x. Faulty x (read_script scrip
 broken sheet script v P NoMemory h a = ap is_ok h
 
 pub returns-in_err-calls : goal.returns-in_err-calls
-returns-in_err-calls c = let p = err_from_is_err_and c.from-residual-in_err-calls.result c.from-residual-in_err-calls.ensures.1 in rw (p.1, p.2) (broken c.args.sheet.now c.args.script.now _ _ c.in_err-calls.field-0.0 (sym c.in_ok-sheet.ensures.value) c.in_err-calls.ensures.value)
+returns-in_err-calls c = let p = err_from_is_err_and c.from_residual-in_err-calls.result c.from_residual-in_err-calls.ensures.1 in rw (p.1, p.2) (broken c.args.sheet.now c.args.script.now _ _ c.in_err-calls.field-0.0 (sym c.in_ok-sheet.ensures.value) c.in_err-calls.ensures.value)
 
 pub returns-in_err-text : goal.returns-in_err-text
-returns-in_err-text c = let p = err_from_is_err_and c.from-residual-in_err-text.result c.from-residual-in_err-text.ensures.1 in rw (p.1, p.2) (ap is_ok (sym c.in_ok-sheet.ensures.value))
+returns-in_err-text c = let p = err_from_is_err_and c.from_residual-in_err-text.result c.from_residual-in_err-text.ensures.1 in rw (p.1, p.2) (ap is_ok (sym c.in_ok-sheet.ensures.value))
 
 pub returns : goal.returns
 returns c = record {

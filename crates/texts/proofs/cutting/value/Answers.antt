@@ -5,5 +5,5 @@ use Rattle.texts.proofs.cutting.value.Goals as goal
 
 pub loop-i-preserved : goal.loop-i-preserved
 loop-i-preserved c =
-    ap (past (c.args.k - (c.loop-i.-i + 1))) c.cut.ensures.back
-    ∙ sym (past_on c.args.k c.loop-i.-i c.loop-i.rest.now (omega arith)) ∙ c.loop-i.invariant
+    ap (past (c.args.k - (c.loop-i._i + 1))) c.cut.ensures.back
+    ∙ sym (past_on c.args.k c.loop-i._i c.loop-i.rest.now (omega arith)) ∙ c.loop-i.invariant

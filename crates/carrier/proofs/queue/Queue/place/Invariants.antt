@@ -3,4 +3,4 @@ use Rattle.carrier.specs.Packing.{bulk, unpacked}
 use Rattle.carrier.proofs.queue.Queue.place.Given as goal
 
 abbrev pub invariant-loop-i : goal.invariant-loop-i
-invariant-loop-i l = l.start ≡ bulk (take l.-i (unpacked l.self.count (vec_items l.self.memory)))
+invariant-loop-i l = l.start ≡ bulk (take l._i (unpacked l.self.count (vec_items l.self.memory)))

@@ -15,7 +15,7 @@ after c =
     holding_push (vec_items q.memory) _ c.args.s.now q.used q.count q.whole (omega arith) q.short c.requires c.store.ensures.items
 
 pub invariant_of-self : goal.invariant_of-self
-invariant_of-self c = ((after c).whole, (search rules, ((after c).short, tt)))
+invariant_of-self c = record { whole = (after c).whole; room = search rules; short = (after c).short }
 
 pub returns : goal.returns
 returns c =

@@ -16,7 +16,7 @@ after c =
     (removing q c.args.k _ _ _ c.requires.within c.place-start.ensures.start c.place-start.ensures.len c.close_gap-self.ensures.items)
 
 pub invariant_of-self : goal.invariant_of-self
-invariant_of-self c = ((after c).whole, (omega (arith, c.close_gap-self.ensures.value), ((after c).short, tt)))
+invariant_of-self c = record { whole = (after c).whole; room = omega (arith, c.close_gap-self.ensures.value); short = (after c).short }
 
 pub returns : goal.returns
 returns c = let h = after (goal.at.returns c).After-close_gap-self in record { held = h.is; contents = h.laid; size = c.close_gap-self.ensures.len }

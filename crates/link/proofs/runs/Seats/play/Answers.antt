@@ -29,7 +29,7 @@ returns g c =
 
 pub returns-in_err-got : goal.returns-in_err-got
 returns-in_err-got g c =
-    let p = err_from_is_err_and c.from-residual.result c.from-residual.ensures.1 in
+    let p = err_from_is_err_and c.from_residual.result c.from_residual.ensures.1 in
     let k = c.call-item.result in
     let i = c.loop-call.call-index in
     let read = take_more c.args.calls.now i k c.loop-call-test.true ∙ ap (λ x. take i c.args.calls.now ++ (x ∷ [])) (sym c.call-item.is) in
@@ -37,7 +37,7 @@ returns-in_err-got g c =
 
 pub returns-in_err-push : goal.returns-in_err-push
 returns-in_err-push g c =
-    let p = err_from_is_err_and c.from-residual-in_err-push.result c.from-residual-in_err-push.ensures.1 in
+    let p = err_from_is_err_and c.from_residual-in_err-push.result c.from_residual-in_err-push.ensures.1 in
     let k = c.call-item.result in
     let i = c.loop-call.call-index in
     let read = take_more c.args.calls.now i k c.loop-call-test.true ∙ ap (λ x. take i c.args.calls.now ++ (x ∷ [])) (sym c.call-item.is) in

@@ -15,8 +15,8 @@ loop-turn-init c =
 pub loop-turn-preserved : goal.loop-turn-preserved
 loop-turn-preserved c =
     ap (turns (polynomial c.args.self) _) c.shift-reg.ensures
-    ∙ turns_more (polynomial c.args.self) (low c.args.self) c.loop-turn.-turn c.loop-turn.reg (omega arith) ∙ c.loop-turn.invariant
+    ∙ turns_more (polynomial c.args.self) (low c.args.self) c.loop-turn._turn c.loop-turn.reg (omega arith) ∙ c.loop-turn.invariant
 
 pub returns : goal.returns
 unfolding turns
-returns c = let e : 8 - c.loop-turn.-turn ≡ 0 = omega arith in sym (ap (λ n. turns (polynomial c.args.self) n c.loop-turn.reg) e) ∙ c.loop-turn.invariant
+returns c = let e : 8 - c.loop-turn._turn ≡ 0 = omega arith in sym (ap (λ n. turns (polynomial c.args.self) n c.loop-turn.reg) e) ∙ c.loop-turn.invariant
