@@ -14,12 +14,12 @@ returns-in_err-n-in-45 c =
     let p = err_from_is_err_and c.from_residual.result c.from_residual.ensures.1 in
     let first : get_or s 0 0 ≡ 45 = search rules in
     p.1 ∙ ap (λ w. Err w) p.2
-    ∙ sym (below_is s r first ∙ ap (λ x. then x (λ n. Ok (neg_ℤ (pos n)))) (ap (read_number r) (sym (take_rest s 1)) ∙ sym c.number.ensures.value ∙ c.in_err-n.was))
+    ∙ sym (below_is s r first ∙ ap (λ x. then x (λ n. Ok (neg_ℤ (pos n)))) (ap (read_number r) (sym (take_rest s 1)) ∙ sym c.number.ensures.value ∙ c.in_err-n-in-45.was))
 
 pub returns-in_ok-n-in-45 : goal.returns-in_ok-n-in-45
 returns-in_ok-n-in-45 c =
     let s = c.args.s.now in
     let r = c.args.range in
     let first : get_or s 0 0 ≡ 45 = search rules in
-    let is = ap (read_number r) (sym (take_rest s 1)) ∙ sym c.number.ensures.value ∙ c.in_ok-n.was in
+    let is = ap (read_number r) (sym (take_rest s 1)) ∙ sym c.number.ensures.value ∙ c.in_ok-n-in-45.was in
     ap (λ z. Ok z) (omega (arith, ints)) ∙ sym (below_is s r first ∙ ap (λ x. then x (λ n. Ok (neg_ℤ (pos n)))) is)
