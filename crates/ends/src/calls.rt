@@ -45,8 +45,8 @@ fn has_room(largest: usize, buf: usize, out: usize) -> bool
 // Puts what stands at the start of `out`, if anything was laid there.
 pub(crate) fn put<C: Carrier>(carrier: &mut C, from: Role, laid: Option<usize>, out: &[u8])
     requires { Fits laid (length out.now) }
-    ensures rules { Puts (meaning carrier.old) (meaning carrier.new) from (front laid out.now) }
-    ensures exact { PutStep putting carrier.old carrier.new from (front laid out.now) }
+    ensures rules { Puts (C.meaning carrier.old) (C.meaning carrier.new) from (front laid out.now) }
+    ensures exact { PutStep C.putting carrier.old carrier.new from (front laid out.now) }
 {
     if let Some(n) = laid {
         let _ = carrier.put(from, &out[0..n]);
@@ -137,8 +137,8 @@ impl End {
 
     // One tick of the end, with a message, which may be empty.
     pub fn tick<C: Carrier>(&mut self, carrier: &mut C, message: &[u8], out: &mut [u8]) -> Answer
-        ensures rules { Ticks (end_value self.old) (end_value self.new) (meaning carrier.old) (meaning carrier.new) message.now out.old out.new result }
-        ensures exact { TickStep putting carrier.old carrier.new (end_value self.old) (meaning carrier.old).largest message.now out.old }
+        ensures rules { Ticks (end_value self.old) (end_value self.new) (C.meaning carrier.old) (C.meaning carrier.new) message.now out.old out.new result }
+        ensures exact { TickStep C.putting carrier.old carrier.new (end_value self.old) (C.meaning carrier.old).largest message.now out.old }
     {
         let room = out.len() >= LONGEST_FRAME;
         if let Some(refused) = refusal(carrier.max_len(), room, self.out_refusal()) {
@@ -169,8 +169,8 @@ impl End {
 
     // Takes what comes out of the carrier, if anything does.
     pub fn fetch<C: Carrier>(&mut self, carrier: &mut C, buf: &mut [u8], out: &mut [u8]) -> Answer
-        ensures rules { Fetches (end_value self.old) (end_value self.new) (meaning carrier.old) (meaning carrier.new) buf.old buf.new out.old out.new result }
-        ensures exact { FetchStep putting fetching carrier.old carrier.new (end_value self.old) (end_value self.new) (meaning carrier.old).largest buf.old buf.new out.old out.new result }
+        ensures rules { Fetches (end_value self.old) (end_value self.new) (C.meaning carrier.old) (C.meaning carrier.new) buf.old buf.new out.old out.new result }
+        ensures exact { FetchStep C.putting C.fetching carrier.old carrier.new (end_value self.old) (end_value self.new) (C.meaning carrier.old).largest buf.old buf.new out.old out.new result }
     {
         let largest = carrier.max_len();
         if let Some(refused) = refusal(
@@ -193,8 +193,8 @@ impl End {
 
     // Takes the token back, and releases the end unless it is out.
     pub fn stop<C: Carrier>(&mut self, carrier: &mut C, token: StopToken) -> Answer
-        ensures rules { Stops (end_value self.old) (end_value self.new) (meaning carrier.old) (meaning carrier.new) result }
-        ensures exact { StopStep putting carrier.old carrier.new (end_value self.old) }
+        ensures rules { Stops (end_value self.old) (end_value self.new) (C.meaning carrier.old) (C.meaning carrier.new) result }
+        ensures exact { StopStep C.putting carrier.old carrier.new (end_value self.old) }
     {
         let StopToken { spent: () } = token;
         if let State::Out(_) = self.state {

@@ -63,8 +63,8 @@ impl End {
         carrier: &mut C,
         out: &mut [u8],
     ) -> Result<Opened, NotOpened<InitiatorNumbers>>
-        ensures rules { OpensInitiator params.values numbers (meaning carrier.old) (meaning carrier.new) out.old out.new result }
-        ensures exact { OpeningStep putting carrier.old carrier.new Role.Initiator (State.WaitAu2 numbers.rb.value numbers.rc.value) (meaning carrier.old).largest out.old }
+        ensures rules { OpensInitiator params.values numbers (C.meaning carrier.old) (C.meaning carrier.new) out.old out.new result }
+        ensures exact { OpeningStep C.putting carrier.old carrier.new Role.Initiator (State.WaitAu2 numbers.rb.value numbers.rc.value) (C.meaning carrier.old).largest out.old }
     {
         if let Some(refusal) = refusal(carrier.max_len(), out.len() >= LONGEST_FRAME, None) {
             return Err(NotOpened { refusal, numbers });
@@ -91,8 +91,8 @@ impl End {
         carrier: &mut C,
         out: &mut [u8],
     ) -> Result<Opened, NotOpened<SessionNumber>>
-        ensures rules { OpensResponder params.values ra (meaning carrier.old) (meaning carrier.new) out.old out.new result }
-        ensures exact { OpeningStep putting carrier.old carrier.new Role.Responder (State.Listen ra.value) (meaning carrier.old).largest out.old }
+        ensures rules { OpensResponder params.values ra (C.meaning carrier.old) (C.meaning carrier.new) out.old out.new result }
+        ensures exact { OpeningStep C.putting carrier.old carrier.new Role.Responder (State.Listen ra.value) (C.meaning carrier.old).largest out.old }
     {
         if let Some(refusal) = refusal(carrier.max_len(), out.len() >= LONGEST_FRAME, None) {
             return Err(NotOpened {

@@ -81,7 +81,7 @@ fn copied(heap: Global, buf: &[u8], place: Option<Place>) -> Result<Vec<u8>, All
 impl Seats {
     // Opens the initiator, then the responder.
     fn open<C: Carrier>(carrier: &mut C, sheet: &Sheet, numbers: Numbers) -> Result<Seats, Refusal>
-        ensures { OpensSeats sheet.now numbers (meaning carrier.old) (meaning carrier.new) result }
+        ensures { OpensSeats sheet.now numbers (C.meaning carrier.old) (C.meaning carrier.new) result }
     {
         let Numbers { ra, rb, rc } = numbers;
         let mut out = [0u8; LONGEST_FRAME];
@@ -105,7 +105,7 @@ impl Seats {
         buf: &mut [u8],
         out: &mut [u8],
     ) -> Answer
-        ensures { Steps call.now (link_value (meaning carrier.old) self.old) (link_value (meaning carrier.new) self.new) buf.new result }
+        ensures { Steps call.now (link_value (C.meaning carrier.old) self.old) (link_value (C.meaning carrier.new) self.new) buf.new result }
     {
         match call.end {
             Role::Initiator => self.initiator.act(carrier, &call.action, buf, out),
@@ -120,7 +120,7 @@ impl Seats {
         carrier: &mut C,
         calls: &[Call],
     ) -> Result<Vec<Line>, AllocError>
-        ensures { Plays (link_value (meaning carrier.old) self.old) (link_value (meaning carrier.new) self.new) calls.now result }
+        ensures { Plays (link_value (C.meaning carrier.old) self.old) (link_value (C.meaning carrier.new) self.new) calls.now result }
     {
         let mut buf = [0u8; LONGEST_STRING];
         let mut out = [0u8; LONGEST_FRAME];
@@ -135,7 +135,7 @@ impl Seats {
 
     // Stops the ends that were not stopped, the initiator first.
     fn finish<C: Carrier>(self, carrier: &mut C)
-        ensures { Closed (link_value (meaning carrier.old) self) (meaning carrier.new) }
+        ensures { Closed (link_value (C.meaning carrier.old) self) (C.meaning carrier.new) }
     {
         let Seats {
             initiator,
@@ -154,7 +154,7 @@ pub fn run<C: Carrier>(
     numbers: Numbers,
     calls: &[Call],
 ) -> Result<Vec<Line>, RunError>
-    ensures tells { Tells sheet.now numbers (meaning carrier.old) (meaning carrier.new) calls.now result }
+    ensures tells { Tells sheet.now numbers (C.meaning carrier.old) (C.meaning carrier.new) calls.now result }
     ensures law { LawOfTheLink }
 {
     let mut seats = Seats::open(carrier, sheet, numbers)?;

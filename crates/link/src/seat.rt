@@ -42,7 +42,7 @@ impl Seat {
         carrier: &mut C,
         out: &mut [u8],
     ) -> Result<Seat, Refusal>
-        ensures { OpensSeat params.values Initiator (WaitAu2 numbers.rb.value numbers.rc.value) (meaning carrier.old) (meaning carrier.new) out.old out.new result }
+        ensures { OpensSeat params.values Initiator (WaitAu2 numbers.rb.value numbers.rc.value) (C.meaning carrier.old) (C.meaning carrier.new) out.old out.new result }
     {
         match End::open_initiator(params, numbers, carrier, out) {
             Ok(opened) => Ok(Seat::new(opened)),
@@ -56,7 +56,7 @@ impl Seat {
         carrier: &mut C,
         out: &mut [u8],
     ) -> Result<Seat, Refusal>
-        ensures { OpensSeat params.values Responder (Listen ra.value) (meaning carrier.old) (meaning carrier.new) out.old out.new result }
+        ensures { OpensSeat params.values Responder (Listen ra.value) (C.meaning carrier.old) (C.meaning carrier.new) out.old out.new result }
     {
         match End::open_responder(params, ra, carrier, out) {
             Ok(opened) => Ok(Seat::new(opened)),
@@ -66,7 +66,7 @@ impl Seat {
 
     // A script's stop: a second one is refused.
     fn stop<C: Carrier>(&mut self, carrier: &mut C) -> Answer
-        ensures { StopActs (seat_value self.old) (seat_value self.new) (meaning carrier.old) (meaning carrier.new) result }
+        ensures { StopActs (seat_value self.old) (seat_value self.new) (C.meaning carrier.old) (C.meaning carrier.new) result }
     {
         match self.token.take() {
             Some(token) => self.end.stop(carrier, token),
@@ -87,7 +87,7 @@ impl Seat {
         buf: &mut [u8],
         out: &mut [u8],
     ) -> Answer
-        ensures { Acts action.now (seat_value self.old) (seat_value self.new) (meaning carrier.old) (meaning carrier.new) buf.old buf.new out.old out.new result }
+        ensures { Acts action.now (seat_value self.old) (seat_value self.new) (C.meaning carrier.old) (C.meaning carrier.new) buf.old buf.new out.old out.new result }
     {
         match action {
             Action::Tick(message) => self.end.tick(carrier, message.as_slice(), out),
@@ -98,7 +98,7 @@ impl Seat {
 
     // Stops the end unless that has been done.
     pub(crate) fn finish<C: Carrier>(self, carrier: &mut C)
-        ensures { LetGo (seat_value self) (meaning carrier.old) (meaning carrier.new) }
+        ensures { LetGo (seat_value self) (C.meaning carrier.old) (C.meaning carrier.new) }
     {
         let Seat { mut end, token } = self;
         match token {

@@ -37,8 +37,8 @@ fn put_packet<C: Carrier>(
     frame: &[u8],
 ) -> Result<Keeping, Refusal>
     requires { length frame.now + packet_overhead ≤ greatest_length }
-    ensures rules { PutRules (meaning carrier.old) (meaning carrier.new) from (packet_bytes (record { number = number.0; frame = frame.now }) cable) result }
-    ensures exact { putting carrier.old from (packet_bytes (record { number = number.0; frame = frame.now }) cable) result carrier.new }
+    ensures rules { PutRules (C.meaning carrier.old) (C.meaning carrier.new) from (packet_bytes (record { number = number.0; frame = frame.now }) cable) result }
+    ensures exact { C.putting carrier.old from (packet_bytes (record { number = number.0; frame = frame.now }) cable) result carrier.new }
 {
     let mut packet = [0u8; GREATEST_LENGTH];
     let Ok(n) = Packet { number, frame }.write(cable, &mut packet) else {
@@ -108,7 +108,7 @@ fn fetch_frame<C: Carrier>(
     buf: &mut [u8],
 ) -> Option<Taken>
     requires { most ≤ length buf.old }
-    ensures { Asked (λ b a b'. FetchRules (meaning carrier.old) (meaning carrier.new) at b b' a × fetching carrier.old at b a b' carrier.new) most last buf.old buf.new result }
+    ensures { Asked (λ b a b'. FetchRules (C.meaning carrier.old) (C.meaning carrier.new) at b b' a × C.fetching carrier.old at b a b' carrier.new) most last buf.old buf.new result }
 {
     let mut memory = [0u8; GREATEST_LENGTH];
     match carrier.fetch(at, &mut memory) {
