@@ -84,11 +84,11 @@ def gather(root):
 
 
 # A name whose new spelling another one has already.
-APART = {"bits-of": "bits_bits_of"}
+APART = {"bits-of": "bits_bits_of", "Differing-bits": "BitsExamples"}
 
 
 def spellings(facts, words):
-    new = {n: camel(n) for n in facts}
+    new = {n: APART.get(n) or camel(n) for n in facts}
     for n in words:
         new[n] = n if n[0].isupper() else APART.get(n) or snake(n)
     return {n: s for n, s in new.items() if n != s}

@@ -26,8 +26,8 @@ CodeExamples =
     × (code_of 0 (0x00 ∷ []) ≡ 0)
 
 -- five differing bits are too few, six are enough
-abbrev pub DifferingBits : Type 0
-DifferingBits = (apart 0x1F 0 ≡ Err (whole_line DifferingBits)) × (apart 0x3F 0 ≡ Ok tt)
+abbrev pub BitsExamples : Type 0
+BitsExamples = (apart 0x1F 0 ≡ Err (whole_line DifferingBits)) × (apart 0x3F 0 ≡ Ok tt)
 
 -- last 7, window 3: 7 is dropped, 10 is judged on, 11 releases with 129/3
 abbrev pub WindowExamples : Type 0
