@@ -94,5 +94,5 @@ fn main(rt: HostRuntime) -> io::Result<()> {
     println!(rt; "largest length {largest}")?;
     puts(&rt, &mut pair)?;
     fetches(&rt, &mut pair)?;
-    packets::show(&rt)
+    packed::show(&rt)
 }
