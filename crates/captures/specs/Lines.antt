@@ -1,5 +1,5 @@
 -- The lines of a capture.
-use Rattle.std.specs.Prelude.{ℕ, ◌-◌, cond, ◌&&◌, List, [], ◌∷◌, length, take, drop, Some, None, Ok, Err, codes, Option, Result, ◌==◌, nat_le, nat_lt, slice_index}
+use Rattle.std.specs.Prelude.{ℕ, ◌-◌, cond, ◌&&◌, List, length, take, drop, Ok, Err, codes, Result, ◌==◌, nat_le, nat_lt, slice_index}
 use Rattle.std.specs.Str.{bytes_eq}
 use Rattle.terms.specs.Outcomes.{then}
 use Rattle.captures.specs.declared.line.Line.{Line}

@@ -1,5 +1,5 @@
 -- What a store does keeps the rules of a carrier.
-use Rattle.std.proofs.Common.{◌≡◌, ℕ, zero, suc, ◌+◌, ◌-◌, ◌<◌, ◌≤◌, Bool, true, false, cond, leb, ◌⊎◌, List, [], ◌∷◌, ◌++◌, length, get_or, take, drop, Some, None, Ok, Err, Option, Result, sym, refl, ap, ◌∙◌, subst, inl, inr, ⊎_elim, arith, le-leb, leb-false, leb-true}
+use Rattle.std.proofs.Common.{◌≡◌, ℕ, zero, suc, ◌-◌, ◌<◌, ◌≤◌, Bool, true, false, cond, leb, List, [], ◌∷◌, ◌++◌, length, get_or, take, drop, Some, None, Ok, Err, Option, Result, sym, refl, ap, ◌∙◌, subst, inl, inr, ⊎_elim, arith, le-leb, leb-false, leb-true}
 use mathlib.Core.List.Memᴰ
 use mathlib.Core.List.{Memᴰ}
 use Rattle.std.specs.List.{remove}
@@ -13,7 +13,7 @@ use Rattle.carrier.specs.Rules.{Strings, Meaning, greatest_length, NoGain, PutRu
 use Rattle.carrier.proofs.Sides.{both, no_gain_same, mem_get_d}
 use Rattle.carrier.specs.declared.store.Store.{Store}
 use Rattle.carrier.specs.Packing.{Short, laid_out}
-use Rattle.carrier.specs.Wires.{wire_meaning, strings_at, memory_at, room_at, fits, put_answer, put_strings, WirePut, place_of, fetch_answer, fetch_strings, fetch_buffer, WireFetch}
+use Rattle.carrier.specs.Wires.{wire_meaning, strings_at, memory_at, room_at, fits, WirePut, place_of, fetch_answer, fetch_strings, fetch_buffer, WireFetch}
 
 abbrev means : (Role → Strings) → Meaning
 means f = record { largest = greatest_length; strings = f }

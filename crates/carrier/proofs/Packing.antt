@@ -1,13 +1,13 @@
 -- Strings that lie packed in a memory: they can be read back, and what a push and a removal leave.
-use Rattle.std.proofs.Common.{◌≡◌, ℕ, zero, suc, ◌+◌, ◌-◌, ◌*◌, ◌/◌, ◌%◌, ◌<◌, ◌≤◌, ◌⊎◌, List, [], ◌∷◌, ◌++◌, length, get_or, take, drop, set, sym, refl, ap, ◌∙◌, subst, ⊎_elim, append_assoc, div-add-mod', arith, length-append, length-set, rules}
-use borrow.Rule.Slice.PartMut.{put_mid, post_of}
+use Rattle.std.proofs.Common.{◌≡◌, ℕ, zero, suc, ◌+◌, ◌-◌, ◌*◌, ◌/◌, ◌%◌, ◌<◌, ◌≤◌, List, [], ◌∷◌, ◌++◌, length, get_or, take, drop, set, sym, refl, ap, ◌∙◌, subst, ⊎_elim, append_assoc, div-add-mod', arith, length-append, length-set}
+use borrow.Rule.Slice.PartMut.{put_mid}
 use Rattle.std.specs.List.{flat_map, remove}
 use Rattle.std.proofs.lemmas.List.{take_at, drop_at, drop-drop, flat_map_more, length_push, take-append-drop, length-take-le, take_more_set, drop-set-lt, get_or_append_left, get_or_push, get_or_at, get_or-append-add, take_more, length-drop}
 use Rattle.std.proofs.lemmas.List.Edits.{length-remove, get_or-remove_below, get_or-remove_above, take-paste, drop-paste, length-paste}
 use lib.Seq.{paste}
 use Rattle.std.proofs.lemmas.Bool.{cases_lt}
 use Rattle.carrier.specs.Rules.{Strings, greatest_length}
-use Rattle.carrier.specs.Packing.{packed, first_length, unpacked, bulk, laid_out, Whole, Short}
+use Rattle.carrier.specs.Packing.{packed, unpacked, bulk, laid_out, Whole, Short}
 
 drop_two : (n x y : ℕ) (xs : List ℕ) → drop (n + 2) (x ∷ y ∷ xs) ≡ drop n xs
 drop_two n x y xs = let e : n + 2 ≡ suc (suc n) = omega arith in rw e

@@ -1,11 +1,11 @@
 -- How a fault wire chooses what comes out.
-use Rattle.std.specs.Prelude.{◌≡◌, ℕ, Bool, true, false, cond, List, [], ◌∷◌, length, drop, Some, None, vec_items, Option, Result, nat_le}
+use Rattle.std.specs.Prelude.{◌≡◌, ℕ, false, cond, List, [], ◌∷◌, length, drop, vec_items, Option, Result, nat_le}
 use Rattle.terms.specs.declared.role.Role.{Role}
 use Rattle.terms.specs.declared.refusal.Refusal.{Refusal}
 use Rattle.carrier.specs.declared.Keeping.{Keeping}
 use Rattle.carrier.specs.declared.fault.Choice.{Choice}
 use Rattle.carrier.specs.declared.fault.FaultWire.{FaultWire}
-use Rattle.carrier.specs.Rules.{Strings, greatest_length}
+use Rattle.carrier.specs.Rules.{greatest_length}
 use Rattle.carrier.specs.Wires.{strings_at, place_of, WirePut, WireFetch}
 
 -- the choices that are not used up

@@ -1,5 +1,5 @@
 -- Each string is exactly one frame, or is refused for exactly one reason.
-use Rattle.std.proofs.Common.{◌≡◌, ℕ, zero, suc, ◌+◌, ◌-◌, ◌^◌, ◌<◌, ◌≤◌, Bool, true, false, cond, ◌&&◌, eqb, leb, ◌≢◌, ◌⊎◌, List, [], ◌∷◌, ◌++◌, length, get_or, take, drop, Some, None, Ok, Err, Option, Result, sym, refl, ap, ◌∙◌, subst, ap₂, inl, inr, ⊎_elim, arith, length-append, length-drop, take-append-drop, length-take, drop-drop, take_at, drop_at}
+use Rattle.std.proofs.Common.{◌≡◌, ℕ, suc, ◌-◌, ◌^◌, ◌<◌, ◌≤◌, true, false, cond, ◌&&◌, eqb, leb, ◌≢◌, ◌⊎◌, List, [], ◌∷◌, ◌++◌, length, get_or, take, drop, Some, None, Ok, Err, Option, Result, sym, refl, ap, ◌∙◌, subst, ap₂, inl, inr, ⊎_elim, arith, length-append, length-drop, take-append-drop, length-take, drop-drop, take_at, drop_at}
 use Rattle.std.specs.Str.{bytes_eq}
 use Rattle.std.proofs.lemmas.Slice.Eq.{bytes_eq-Decides}
 use Rattle.std.proofs.lemmas.Bool.{cond-true, cond-false, cond_both, ne_eqb, and_from, and_parts, le-leb, leb-true, cases_eq, eqb-true}
@@ -11,8 +11,8 @@ use Rattle.codec.specs.declared.frame_type.FrameType.{FrameType}
 use Rattle.codec.specs.declared.frame_type.FrameType.TheVariants as type
 use Rattle.terms.specs.Numbers.{number, bytes, Bytes}
 use Rattle.codec.specs.FrameTypes.{Goes, first_byte, suits_length}
-use Rattle.codec.specs.Frames.{FrameValue, bare_di, au1, au2, au3, ar, di, dt, most_data, fixed_bytes, ignored_text, sized, bytes_of, head_of, read_frame, read_as, read_body, read_dt, read_di}
-use Rattle.codec.specs.FrameLaws.{Writing, UnknownType, WrongLength, WrongFixed, NoFrame, Judged, settled, WrittenAgain, FitsFields}
+use Rattle.codec.specs.Frames.{FrameValue, bare_di, au1, au2, au3, ar, di, dt, most_data, fixed_bytes, ignored_text, sized, bytes_of, head_of, read_frame, read_as, read_body, read_dt}
+use Rattle.codec.specs.FrameLaws.{Writing, UnknownType, NoFrame, Judged, settled, WrittenAgain, FitsFields}
 use Rattle.terms.proofs.Numbers.{number_back, bytes_back, number_lt, Bytes-drop, spell, spelled}
 
 -- the first byte of a frame names it

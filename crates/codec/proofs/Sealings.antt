@@ -1,21 +1,19 @@
 -- Sealed frames, and the one word that a data frame bears.
-use Rattle.std.proofs.Common.{◌≡◌, ℕ, suc, ◌+◌, ◌-◌, ◌*◌, ◌^◌, ◌<◌, ◌≤◌, Bool, true, false, cond, List, [], ◌∷◌, ◌++◌, length, take, drop, Some, None, Ok, Err, Option, Result, sym, refl, ap, ◌∙◌, subst, ap₂, arith, length-append, take_at, drop_at}
+use Rattle.std.proofs.Common.{◌≡◌, ℕ, suc, ◌+◌, ◌-◌, ◌^◌, ◌<◌, ◌≤◌, List, length, take, drop, Some, None, Ok, Err, Option, Result, sym, refl, ap, ◌∙◌, subst, arith, length-append, take_at, drop_at}
 use lib.Bits.{bit_xor, xor_assoc, xor_self, xor_zero_l, xor_lt}
 use Rattle.terms.specs.declared.refusal.Refusal.{Refusal}
 use Rattle.terms.specs.declared.role.Role.{Role}
-use Rattle.codec.specs.declared.frame_type.FrameType.TheVariants as type
 use Rattle.safety.specs.declared.crc.Channel.TheVariants.{First, Second}
 use Rattle.safety.specs.declared.word.SafetyWord.{SafetyWord}
 use Rattle.terms.specs.Numbers.{number, bytes, Bytes}
-use Rattle.safety.specs.Remainder.{polynomial, remainder}
-use Rattle.codec.specs.FrameTypes.{first_byte}
+use Rattle.safety.specs.Remainder.{polynomial}
 use Rattle.codec.specs.Frames.{FrameValue, bare_di, au1, au2, au3, ar, di, dt, read_frame}
 use Rattle.codec.specs.FrameLaws.{Writing, Judged}
 use Rattle.safety.specs.Words.{checks, code_of, word_borne}
 use Rattle.codec.specs.Sealing.{guarded, sealed, word_in, Bears, BearsOne}
 use Rattle.safety.proofs.Channels.{low}
 use Rattle.safety.proofs.Register.{remainder_lt}
-use Rattle.terms.proofs.Numbers.{number_back, bytes_back, number_lt, length_bytes, Bytes-drop}
+use Rattle.terms.proofs.Numbers.{number_back, bytes_back, number_lt, Bytes-drop}
 use Rattle.terms.specs.Buffers.{overlay}
 use Rattle.terms.proofs.Laid.{laid_front}
 use Rattle.codec.proofs.Judging.{writing_reads, judged}

@@ -8,7 +8,7 @@ use Rattle.codec.specs.declared.frame_type.FrameType.{FrameType}
 use Rattle.codec.specs.declared.frame_type.FrameType.TheVariants as type
 use Rattle.terms.specs.Numbers.{bytes}
 use Rattle.codec.specs.FrameTypes.{Goes, first_byte, suits_length}
-use Rattle.codec.specs.Frames.{FrameValue, bare_di, au1, au2, au3, ar, di, dt, most_data, ignored_text, fixed_bytes, sized, bytes_of, read_frame}
+use Rattle.codec.specs.Frames.{FrameValue, bare_di, au1, au2, au3, ar, di, dt, most_data, ignored_text, fixed_bytes, bytes_of, read_frame}
 
 -- s is a writing of f: only an AU2 has more than one, by the eight bytes that reading ignores
 abbrev pub Writing : FrameValue → List ℕ → Type 0

@@ -1,5 +1,5 @@
 -- The layout of the frames: how each is written, and what a string is read as.
-use Rattle.std.specs.Prelude.{◌≡◌, ℕ, suc, ◌+◌, ◌-◌, ◌≤◌, Bool, true, false, cond, ◌&&◌, List, [], ◌∷◌, ◌++◌, length, take, drop, Some, None, Ok, Err, Option, Result, ◌==◌, nat_le, slice_index}
+use Rattle.std.specs.Prelude.{◌≡◌, ℕ, suc, ◌-◌, ◌≤◌, Bool, true, cond, ◌&&◌, List, [], ◌∷◌, ◌++◌, length, take, drop, Some, None, Ok, Err, Option, Result, ◌==◌, nat_le, slice_index}
 use Rattle.std.specs.Str.{bytes_eq}
 use Rattle.terms.specs.declared.refusal.Refusal.{Refusal}
 use Rattle.terms.specs.declared.refusal.Refusal.TheVariants as refusal
@@ -11,7 +11,7 @@ use Rattle.codec.specs.declared.frame_type.ReasonCodes.{ReasonCodes}
 use Rattle.codec.specs.declared.frame.Frame.{Frame}
 use Rattle.codec.specs.declared.frame.Frame.TheVariants.{BareDi, Au1, Au2, Au3, Ar, Di, Dt}
 use Rattle.terms.specs.Numbers.{number, bytes}
-use Rattle.terms.specs.Buffers.{put_answer, put_after}
+use Rattle.terms.specs.Buffers.{put_after}
 use Rattle.codec.specs.FrameTypes.{first_byte, suits_length}
 
 -- a frame by what it says, wherever its bytes lie

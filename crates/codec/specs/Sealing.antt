@@ -1,5 +1,5 @@
 -- Data frames and the word that each bears.
-use Rattle.std.specs.Prelude.{◌≡◌, ℕ, ◌^◌, ◌<◌, cond, List, ◌∷◌, ◌++◌, length, take, Some, None, Ok, Err, Option, Result}
+use Rattle.std.specs.Prelude.{◌≡◌, ℕ, ◌^◌, ◌<◌, List, ◌∷◌, ◌++◌, take, Some, None, Ok, Err, Option, Result}
 use Rattle.terms.specs.declared.refusal.Refusal.{Refusal}
 use Rattle.terms.specs.declared.role.Role.{Role}
 use Rattle.codec.specs.declared.frame_type.FrameType.TheVariants as type
@@ -8,7 +8,6 @@ use Rattle.terms.specs.Numbers.{number, bytes}
 use Rattle.codec.specs.FrameTypes.{first_byte}
 use Rattle.codec.specs.Frames.{FrameValue, bare_di, au1, au2, au3, ar, di, dt, read_frame}
 use Rattle.codec.specs.FrameLaws.{Writing}
-use Rattle.codec.specs.Telegrams.{TelegramValue, telegram_bytes}
 use Rattle.safety.specs.Words.{code_of, word_borne}
 
 -- all bytes before the code

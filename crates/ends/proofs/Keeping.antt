@@ -1,9 +1,8 @@
 -- No call changes an end's role or its parameter set.
-use Rattle.std.proofs.Common.{◌≡◌, ℕ, cond, eqb, refl}
+use Rattle.std.proofs.Common.{◌≡◌, eqb, refl}
 use Rattle.std.proofs.lemmas.Bool.{cond_both}
 use Rattle.terms.specs.declared.counters.SequenceNumber.{SequenceNumber}
 use Rattle.terms.specs.declared.counters.ExecutionCycle.{ExecutionCycle}
-use Rattle.states.specs.declared.reason.Reason.TheVariants as reason
 use Rattle.states.specs.declared.state.State.{State}
 use Rattle.states.specs.declared.state.State.TheVariants as state
 use Rattle.states.specs.declared.state.Words.{Words}
@@ -15,7 +14,7 @@ use Rattle.ends.specs.declared.ways.FetchWay.{FetchWay}
 use Rattle.ends.specs.declared.ways.FetchWay.TheVariants as fetch
 use Rattle.states.specs.States.{EndValue}
 use Rattle.ends.specs.Ways.{greatest}
-use Rattle.ends.specs.Effects.{after_tick, after_fetch, heard_ar, heard_start, heard_telegram, taken_up, released, in_state, number}
+use Rattle.ends.specs.Effects.{after_tick, after_fetch, heard_ar, heard_start, heard_telegram, taken_up}
 
 pub record Kept (e e' : EndValue) : Type 0 where
   pub values : e'.values ≡ e.values

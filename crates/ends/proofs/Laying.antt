@@ -1,5 +1,5 @@
 -- A data frame finds its place in an output buffer of the longest frame.
-use Rattle.std.proofs.Common.{◌≡◌, ℕ, suc, ◌+◌, ◌≤◌, true, leb, List, length, Ok, sym, ap, ◌∙◌, arith}
+use Rattle.std.proofs.Common.{◌≡◌, ℕ, ◌≤◌, true, leb, List, length, Ok, ◌∙◌, arith}
 use Rattle.std.proofs.lemmas.Bool.{cond-true, le-leb}
 use Rattle.terms.specs.declared.role.Role.{Role}
 use Rattle.terms.specs.Buffers.{overlay}

@@ -1,9 +1,8 @@
 -- The calls on an end: what each answers, and what it leaves of end, carrier and buffers.
-use Rattle.std.specs.Prelude.{◌≡◌, ℕ, Bool, true, false, cond, ◌&&◌, List, [], length, take, Some, None, Ok, Err, Option, Result, ◌==◌, nat_le, nat_lt}
+use Rattle.std.specs.Prelude.{◌≡◌, ℕ, Bool, cond, ◌&&◌, List, [], length, take, Some, None, Ok, Option, Result, ◌==◌, nat_le, nat_lt}
 use Rattle.terms.specs.declared.refusal.Refusal.{Refusal}
 use Rattle.terms.specs.declared.refusal.Refusal.TheVariants as refusal
 use Rattle.terms.specs.declared.role.Role.{Role}
-use Rattle.terms.specs.declared.role.Role.TheVariants.{Initiator, Responder}
 use Rattle.codec.specs.Frames.{au1, bytes_of}
 use Rattle.terms.specs.Numbers.{Bytes}
 use Rattle.carrier.specs.declared.Keeping.{Keeping}

@@ -1,14 +1,14 @@
 -- What each rule does to an end, and the frame that it puts.
-use Rattle.std.specs.Prelude.{ℕ, ◌+◌, ◌-◌, ◌<◌, Bool, true, false, cond, List, [], Some, None, Option, ◌==◌, bit_xor, nat_lt}
+use Rattle.std.specs.Prelude.{ℕ, ◌+◌, ◌-◌, ◌<◌, Bool, cond, List, [], Some, None, Option, ◌==◌, bit_xor, nat_lt}
 use Rattle.terms.specs.declared.role.Role.{Role}
 use Rattle.terms.specs.declared.role.Role.TheVariants.{Initiator, Responder}
 use Rattle.terms.specs.declared.counters.SequenceNumber.{SequenceNumber}
 use Rattle.terms.specs.declared.counters.ExecutionCycle.{ExecutionCycle}
 use Rattle.safety.specs.declared.word.SafetyWord.{SafetyWord}
 use Rattle.terms.specs.Roles.{far}
-use Rattle.codec.specs.Frames.{FrameValue, au2, au3, ar, di, bytes_of}
+use Rattle.codec.specs.Frames.{au2, au3, ar, di, bytes_of}
 use Rattle.codec.specs.Sealing.{sealed}
-use Rattle.codec.specs.Telegrams.{ContentValue, ec_start, am, am_req, am_ack, TelegramValue, telegram_bytes}
+use Rattle.codec.specs.Telegrams.{ContentValue, ec_start, am, am_req, am_ack, telegram_bytes}
 use Rattle.safety.specs.Words.{connection_word}
 use Rattle.params.specs.declared.values.Values.{Values}
 use Rattle.ends.specs.declared.answer.Place.{Place}

@@ -1,6 +1,6 @@
 -- Which calls an end makes on its carrier, by the carrier's own steps: in which order, with which string, and none else.
 -- The carrier's rules alone allow that a string is not kept, so they do not tell a put from none; its steps do.
-use Rattle.std.specs.Prelude.{◌≡◌, ℕ, List, length, Some, None, Ok, Err, Option, Result}
+use Rattle.std.specs.Prelude.{◌≡◌, ℕ, List, length, Some, None, Ok, Option, Result}
 use Rattle.terms.specs.declared.refusal.Refusal.{Refusal}
 use Rattle.terms.specs.declared.role.Role.{Role}
 use Rattle.carrier.specs.declared.Keeping.{Keeping}

@@ -1,5 +1,5 @@
 -- The laws of a session.
-use Rattle.std.proofs.Common.{◌≡◌, ℕ, ◌≤◌, true, cond, ◌&&◌, leb, List, length, Some, None, Ok, Err, Result, sym, refl, ap, ◌∙◌, arith, rules}
+use Rattle.std.proofs.Common.{◌≡◌, ℕ, ◌≤◌, true, List, length, Ok, Err, Result, refl, ap, ◌∙◌, rules}
 use lib.Bits.{bit_xor, xor_assoc, xor_comm, xor_self, xor_zero_r}
 use Rattle.terms.specs.declared.refusal.Refusal.{Refusal}
 use Rattle.codec.specs.Frames.{FrameValue, bare_di, au1, au2, au3, ar, di, dt}

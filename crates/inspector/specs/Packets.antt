@@ -2,8 +2,7 @@
 use Rattle.std.specs.Prelude.{ℕ, List, Ok, Err, Result, slice_index}
 use Rattle.terms.specs.declared.refusal.Refusal.{Refusal}
 use Rattle.codec.specs.Frames.{read_frame}
-use Rattle.terms.specs.Outcomes.{then}
-use Rattle.packets.specs.Packets.{PacketValue, read_packet}
+use Rattle.packets.specs.Packets.{PacketValue}
 use Rattle.inspector.specs.declared.session.Session.{Session}
 use Rattle.inspector.specs.declared.session.Unwrapped.{Unwrapped}
 use Rattle.inspector.specs.Sessions.{FindingValue, finding_values, heard, found}

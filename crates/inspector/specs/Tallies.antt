@@ -1,7 +1,6 @@
 -- The counts of a report.
-use Rattle.std.specs.Prelude.{ℕ, ◌+◌, ◌-◌, ◌^◌, min, Bool, true, false, cond, not, Ok, Err, Result}
+use Rattle.std.specs.Prelude.{ℕ, ◌+◌, ◌-◌, ◌^◌, min, cond, Ok, Err, Result}
 use Rattle.terms.specs.declared.refusal.Refusal.{Refusal}
-use Rattle.inspector.specs.declared.session.Verdict.{Verdict}
 use Rattle.inspector.specs.declared.session.Verdict.TheVariants.{Same, Different, Unknown}
 use Rattle.inspector.specs.declared.tally.Seen.{Seen}
 use Rattle.inspector.specs.declared.tally.Seen.TheVariants.{Refused, Other, Data}

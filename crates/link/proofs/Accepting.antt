@@ -1,13 +1,11 @@
 -- A synchronising telegram that was accepted synchronises in the model too.
-use Rattle.std.proofs.Common.{◌≡◌, ℕ, Bool, true, false, ◌⊎◌, List, Some, None, Option, sym, refl, ap, ◌∙◌, subst, inl, inr, ⊎_elim, arith}
+use Rattle.std.proofs.Common.{◌≡◌, ℕ, true, false, ◌⊎◌, List, Some, None, Option, sym, refl, ap, ◌∙◌, subst, inl, inr, ⊎_elim, arith}
 use Rattle.terms.specs.declared.role.Role.{Role}
 use Rattle.terms.specs.declared.role.Role.TheVariants.{Initiator, Responder}
 use Rattle.terms.specs.declared.counters.SequenceNumber.{SequenceNumber}
 use Rattle.terms.specs.declared.counters.ExecutionCycle.{ExecutionCycle}
 use Rattle.terms.specs.Numbers.{Bytes}
 use Rattle.codec.specs.Telegrams.{TelegramValue, content_type}
-use Rattle.states.specs.declared.state.State.{State}
-use Rattle.states.specs.declared.state.State.TheVariants as state
 use Rattle.states.specs.declared.state.Status.{Status}
 use Rattle.states.specs.declared.state.Status.TheVariants as status
 use Rattle.ends.specs.declared.ways.Exchange.{Exchange}
@@ -16,12 +14,12 @@ use Rattle.ends.specs.declared.ways.FetchWay.{FetchWay}
 use Rattle.ends.specs.declared.ways.FetchWay.TheVariants as fetch
 use Rattle.states.specs.States.{EndValue, status_of}
 use Rattle.ends.specs.Ways.{fetch_way}
-use Rattle.link.specs.Runs.{Sheets, SeatValue, seat, Deed, fetches, Moment, Fetch, Does, Step}
+use Rattle.link.specs.Runs.{Sheets, SeatValue, seat, fetches, Moment, Fetch, Does, Step}
 use Rattle.link.specs.Law.{Carries, Accepted, Synchronises, accepting}
 use Rattle.model.specs.Model.{Tel, Syncs}
 use Rattle.model.specs.Model as model
 use Rattle.link.proofs.Seats.{Seated}
-use Rattle.link.proofs.Deeds.{kind_of, tel, start_deed, first_deed, up_deed, fetch_deed, took_deed, seat_deed, deed_of}
+use Rattle.link.proofs.Deeds.{tel, start_deed, first_deed, up_deed, fetch_deed, took_deed, seat_deed, deed_of}
 use Rattle.link.proofs.Reading.{Taken, FirstSpot, UpSpot, content_of, takes_is, starts_is, carries_one}
 use Rattle.link.proofs.Syncing.{took_bytes}
 

@@ -1,5 +1,5 @@
 -- The ticks of an end are those that the model counts.
-use Rattle.std.proofs.Common.{◌≡◌, ℕ, ◌+◌, ◌≤◌, Bool, true, false, cond, eqb, List, length, Some, None, Option, sym, refl, ap, ◌∙◌, subst, ap₂, add-zero, arith}
+use Rattle.std.proofs.Common.{◌≡◌, ℕ, ◌+◌, ◌≤◌, Bool, true, false, eqb, List, length, Some, None, Option, sym, refl, ap, ◌∙◌, subst, add-zero, arith}
 use Rattle.std.proofs.lemmas.Bool.{cond_both}
 use Rattle.terms.specs.declared.refusal.Refusal.{Refusal}
 use Rattle.terms.specs.declared.role.Role.{Role}
@@ -20,7 +20,7 @@ use Rattle.states.specs.States.{EndValue}
 use Rattle.ends.specs.Ways.{greatest, tick_way, fetch_way}
 use Rattle.ends.specs.Calls.{Ticked, tick_refusal}
 use Rattle.link.specs.Times.{History, new, ◌▸◌, ◌≼◌, now', later}
-use Rattle.link.specs.Runs.{Sheets, SeatValue, LinkValue, seat, Deed, opens, ticks, fetches, stops, Moment, Tick, Does, Ran}
+use Rattle.link.specs.Runs.{Sheets, LinkValue, seat, Deed, opens, ticks, fetches, stops, Moment, Tick, Does, Ran}
 use Rattle.link.specs.Law.{ticked, ticks_in, of_role, ticks_until}
 use Rattle.model.specs.Model.{counts}
 use Rattle.model.specs.Model as model

@@ -1,6 +1,5 @@
 -- Each call as a deed of the model: which end did what.
-use Rattle.std.proofs.Common.{◌≡◌, ℕ, Bool, true, false, cond, eqb, List, Some, None, Option}
-use Rattle.terms.specs.declared.refusal.Refusal.{Refusal}
+use Rattle.std.proofs.Common.{ℕ, Bool, true, false, cond, eqb, List, Some, None, Option}
 use Rattle.terms.specs.declared.role.Role.{Role}
 use Rattle.terms.specs.declared.role.Role.TheVariants.{Initiator, Responder}
 use Rattle.terms.specs.declared.counters.SequenceNumber.{SequenceNumber}

@@ -1,29 +1,27 @@
 -- What a delivery takes: a telegram with the bytes delivered as its message, which the far end sent by a tick.
-use Rattle.std.proofs.Common.{◌≡◌, ℕ, ◌+◌, ◌-◌, ◌<◌, ◌≤◌, Bool, true, false, cond, ltb, leb, ◌⊎◌, List, [], length, take, drop, Some, None, Ok, Option, sym, refl, ap, ◌∙◌, subst, ap₂, inl, inr, ⊎_elim, arith}
+use Rattle.std.proofs.Common.{◌≡◌, ℕ, ◌+◌, ◌-◌, ◌<◌, ◌≤◌, Bool, true, false, ltb, leb, List, [], length, take, drop, Some, None, Option, sym, refl, ap, ◌∙◌, subst, ap₂, arith}
 use Rattle.std.proofs.lemmas.Bool.{cond_both, ltb-true}
 use Rattle.std.proofs.lemmas.List.{take-take, drop-take}
 use Rattle.terms.specs.declared.refusal.Refusal.{Refusal}
 use Rattle.terms.specs.declared.role.Role.{Role}
 use Rattle.terms.specs.declared.counters.SequenceNumber.{SequenceNumber}
 use Rattle.terms.specs.declared.counters.ExecutionCycle.{ExecutionCycle}
-use Rattle.codec.specs.Telegrams.{ContentValue, am, am_req, am_ack, TelegramValue}
+use Rattle.codec.specs.Telegrams.{TelegramValue}
 use Rattle.params.specs.declared.values.Values.{Values}
 use Rattle.params.specs.Laws.{InRange}
-use Rattle.ends.specs.declared.answer.Answer.{Answer}
 use Rattle.ends.specs.declared.answer.Place.{Place}
 use Rattle.ends.specs.declared.ways.Exchange.{Exchange}
-use Rattle.ends.specs.declared.ways.Exchange.TheVariants as exchange
 use Rattle.ends.specs.declared.ways.FetchWay.{FetchWay}
 use Rattle.ends.specs.declared.ways.FetchWay.TheVariants as fetch
 use Rattle.states.specs.States.{EndValue}
 use Rattle.ends.specs.Ways.{fetch_way}
-use Rattle.ends.specs.Effects.{delivers, message_place, sent_content, fetch_put}
+use Rattle.ends.specs.Effects.{delivers, message_place, sent_content}
 use Rattle.ends.specs.Calls.{fetch_refusal, tick_refusal, Ticked, came_way, came_length, Octets, said, out_refusal}
-use Rattle.link.specs.Runs.{Sheets, SeatValue, seat, at_place, Deed, opens, ticks, fetches, stops, Moment, Tick, tick_puts, Fetch, FetchDoes, came_string, Stop, StopDoes, Does}
+use Rattle.link.specs.Runs.{Sheets, seat, at_place, Deed, opens, ticks, fetches, stops, Moment, tick_puts, Fetch, FetchDoes, came_string, StopDoes, Does}
 use Rattle.link.specs.Law.{Carries, Send, message_in}
 use Rattle.link.proofs.Seats.{Seated}
-use Rattle.link.proofs.Reading.{Taken, PlaceOf, content_of, takes_is}
-use Rattle.link.proofs.Putting.{Fit, tick_carries, FetchSent, sent_in_ar, sent_in_ec, sent_in_first, sent_in_up, fetch_carries, opening_carries, stop_carries}
+use Rattle.link.proofs.Reading.{Taken, takes_is}
+use Rattle.link.proofs.Putting.{tick_carries, FetchSent, sent_in_ar, sent_in_ec, sent_in_first, sent_in_up, fetch_carries, opening_carries, stop_carries}
 use Rattle.link.proofs.Fits.{FitSeat}
 
 none_some : {A X : Type 0} (x : X) → ◌≡◌ {A = Option X} None (Some x) → A

@@ -1,5 +1,5 @@
 -- A fetch as a deed of the model.
-use Rattle.std.proofs.Common.{◌≡◌, ℕ, ◌+◌, ◌<◌, ◌≤◌, Bool, true, false, cond, eqb, ◌⊎◌, List, length, take, Some, None, Option, sym, refl, ap, ◌∙◌, subst, inl, inr, ⊎_elim, arith}
+use Rattle.std.proofs.Common.{◌≡◌, ℕ, ◌+◌, ◌<◌, ◌≤◌, Bool, true, false, cond, eqb, List, length, take, Some, None, Option, sym, refl, ap, ◌∙◌, subst, ⊎_elim, arith}
 use Rattle.terms.specs.declared.refusal.Refusal.{Refusal}
 use Rattle.terms.specs.declared.role.Role.{Role}
 use Rattle.terms.specs.declared.role.Role.TheVariants.{Initiator, Responder}
@@ -7,9 +7,8 @@ use Rattle.terms.specs.declared.counters.SequenceNumber.{SequenceNumber}
 use Rattle.terms.specs.declared.counters.ExecutionCycle.{ExecutionCycle}
 use Rattle.terms.specs.Numbers.{Bytes}
 use Rattle.codec.specs.Sealing.{Bears}
-use Rattle.codec.specs.Telegrams.{ContentValue, ec_start, am, am_req, am_ack, TelegramValue}
+use Rattle.codec.specs.Telegrams.{ContentValue, TelegramValue}
 use Rattle.states.specs.declared.reason.Reason.TheVariants as reason
-use Rattle.states.specs.declared.state.State.{State}
 use Rattle.states.specs.declared.state.State.TheVariants as state
 use Rattle.states.specs.declared.state.Words.{Words}
 use Rattle.ends.specs.declared.ways.Exchange.{Exchange}
@@ -24,9 +23,9 @@ use Rattle.link.specs.Runs.{Moment, Fetch, FetchDoes, came_string}
 use Rattle.link.specs.Law.{Carries, reads_by}
 use Rattle.model.specs.Model.{Shape, Tel, Deed}
 use Rattle.model.specs.Model as model
-use Rattle.link.proofs.Shapes.{Early, Starting, Waiting, Running, Starts, Looks, Acts}
+use Rattle.link.proofs.Shapes.{Early, Waiting, Running, Starts, Looks, Acts}
 use Rattle.link.proofs.Deeds.{kind_of, tel_of, tel, start_deed, first_deed, up_deed, fetch_deed, took_deed}
-use Rattle.link.proofs.Reading.{Taken, FirstSpot, UpSpot, Started, content_of, takes_is, starts_is, au1_is, au2_is, au3_is, ar_is}
+use Rattle.link.proofs.Reading.{content_of, takes_is, starts_is, au1_is, au2_is, au3_is, ar_is}
 
 -- the telegram of the model that a frame carries
 pub told : (t : TelegramValue) (c : ContentValue) (sn : SequenceNumber) (ec : ExecutionCycle) → t.content ≡ c → t.sn ≡ sn.0 → t.ec ≡ ec.0 → tel_of t ≡ tel (kind_of c) sn ec

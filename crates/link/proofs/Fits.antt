@@ -1,5 +1,5 @@
 -- The counters of an end stay within their 32 bits.
-use Rattle.std.proofs.Common.{◌≡◌, ℕ, ◌+◌, ◌<◌, ◌≤◌, Bool, true, false, cond, eqb, ltb, List, length, Some, None, Option, sym, refl, ap, ◌∙◌, subst, arith}
+use Rattle.std.proofs.Common.{◌≡◌, ℕ, ◌+◌, ◌<◌, ◌≤◌, Bool, true, false, eqb, ltb, length, Some, None, Option, sym, refl, subst, arith}
 use Rattle.std.proofs.lemmas.Bool.{cond_both, eqb-false}
 use Rattle.terms.specs.declared.refusal.Refusal.{Refusal}
 use Rattle.terms.specs.declared.role.Role.{Role}
@@ -23,10 +23,10 @@ use Rattle.ends.specs.declared.ways.FetchWay.{FetchWay}
 use Rattle.ends.specs.declared.ways.FetchWay.TheVariants as fetch
 use Rattle.states.specs.States.{EndValue, in_up_fact}
 use Rattle.ends.specs.Ways.{greatest, limited, start_limit, risen_way, tick_way}
-use Rattle.ends.specs.Effects.{after_tick, after_fetch, after_first, in_state, restarted, started, one_more, taken_up, number, heard_au1, heard_au2, heard_au3, heard_ar, heard_start, heard_telegram}
-use Rattle.ends.specs.Calls.{Ticked, tick_refusal, fetch_refusal, stopped, out_refusal, opened}
+use Rattle.ends.specs.Effects.{after_tick, after_fetch, after_first, started, one_more, taken_up, heard_au1, heard_au2, heard_au3, heard_ar, heard_start, heard_telegram}
+use Rattle.ends.specs.Calls.{Ticked, tick_refusal, fetch_refusal, stopped, opened}
 use Rattle.link.specs.Times.{History, new, ◌▸◌}
-use Rattle.link.specs.Runs.{Sheets, SeatValue, LinkValue, seat, Deed, opens, ticks, fetches, stops, Moment, First, Opening, Tick, Fetch, FetchDoes, Stop, StopDoes, Does, Step, Ran}
+use Rattle.link.specs.Runs.{Sheets, SeatValue, LinkValue, seat, Deed, opens, ticks, fetches, stops, Moment, First, FetchDoes, StopDoes, Does, Ran}
 use Rattle.link.proofs.Seats.{each}
 use Rattle.link.proofs.Putting.{Fit}
 

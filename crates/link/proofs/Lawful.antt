@@ -1,5 +1,5 @@
 -- The law of the link.
-use Rattle.std.proofs.Common.{◌≡◌, ℕ, ◌+◌, ◌-◌, ◌<◌, ◌≤◌, Bool, eqb, ◌⊎◌, List, length, pos, ◌+ℤ◌, ◌-ℤ◌, ◌≤ℤ◌, Some, None, Option, sym, refl, ap, ◌∙◌, subst, inl, inr, ⊎_elim, arith}
+use Rattle.std.proofs.Common.{◌≡◌, ℕ, ◌+◌, ◌-◌, ◌<◌, ◌≤◌, Bool, eqb, List, length, pos, ◌+ℤ◌, ◌-ℤ◌, ◌≤ℤ◌, Some, sym, refl, ap, ◌∙◌, subst, inl, inr, ⊎_elim, arith}
 use Rattle.std.proofs.lemmas.Int.{ints}
 use Rattle.std.proofs.lemmas.Bool.{cond_both}
 use Rattle.terms.specs.declared.role.Role.{Role}
@@ -19,24 +19,23 @@ use Rattle.ends.specs.declared.ways.Exchange.TheVariants as exchange
 use Rattle.ends.specs.declared.ways.FetchWay.TheVariants as fetch
 use Rattle.states.specs.States.{EndValue, status_of}
 use Rattle.ends.specs.Ways.{greatest}
-use Rattle.link.specs.Times.{History, new, ◌▸◌, ◌≼◌, now', later}
-use Rattle.link.specs.Runs.{Sheets, SeatValue, LinkValue, seat, fetches, Moment, Fetch, Does, Step, Ran}
-use Rattle.link.specs.Law.{Carries, Send, Delivery, Accepted, Synchronises, Synchronised, Source, Recent, Law, Fresh, LawOfTheLink, reads_by, message_in, ticks_in, of_role, ticks_until, ticks_between, lead}
+use Rattle.link.specs.Times.{History, ◌▸◌, ◌≼◌, now', later}
+use Rattle.link.specs.Runs.{Sheets, LinkValue, seat, fetches, Moment, Fetch, Does, Step, Ran}
+use Rattle.link.specs.Law.{Carries, Delivery, Accepted, Synchronises, Synchronised, Source, Recent, Fresh, LawOfTheLink, reads_by, message_in, ticks_in, of_role, ticks_until}
 use Rattle.model.specs.Model.{here, there, Tel, Puts}
 use Rattle.model.specs.Model as model
 use Rattle.model.proofs.Laws.{order_stands, young_stands, recent_stands}
 use Rattle.link.proofs.Seats.{Seated, seated}
-use Rattle.link.proofs.Origins.{PutBy}
 use Rattle.link.proofs.Shapes.{Looks, Seen, limits}
 use Rattle.link.proofs.Deeds.{who, kind_of, tel_of, tel, first_deed, up_deed, fetch_deed, took_deed, seat_deed, deed_of}
 use Rattle.link.proofs.Reading.{Taken, content_of}
 use Rattle.link.proofs.Fetching.{told}
 use Rattle.link.proofs.Fits.{fits}
-use Rattle.link.proofs.Simulation.{mover, mine, other, FromOther, Run, shape, Sim, sim, far_put}
-use Rattle.link.proofs.Counting.{my_ticks, other_ticks, mine_counted, other_counted, ticks_rise}
-use Rattle.link.proofs.Syncing.{SyncCall, sync_call}
+use Rattle.link.proofs.Simulation.{mover, mine, other, FromOther, shape, sim, far_put}
+use Rattle.link.proofs.Counting.{mine_counted, other_counted, ticks_rise}
+use Rattle.link.proofs.Syncing.{sync_call}
 use Rattle.link.proofs.Accepting.{accepted_syncs}
-use Rattle.link.proofs.Delivering.{Got, delivered_is, sent_is}
+use Rattle.link.proofs.Delivering.{delivered_is, sent_is}
 
 join : {f g h : History Moment} → f ≼ g → g ≼ h → f ≼ h
 join p now' = p

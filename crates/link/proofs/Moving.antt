@@ -1,6 +1,5 @@
 -- A call of a link as a deed of the model.
-use Rattle.std.proofs.Common.{◌≡◌, ℕ, Bool, true, false, List, Some, None, Option, sym, refl, ap, ◌∙◌, subst}
-use Rattle.terms.specs.declared.refusal.Refusal.{Refusal}
+use Rattle.std.proofs.Common.{◌≡◌, ℕ, Bool, true, false, List, Some, Option, sym, refl, subst}
 use Rattle.terms.specs.declared.role.Role.{Role}
 use Rattle.terms.specs.declared.role.Role.TheVariants.{Initiator, Responder}
 use Rattle.terms.specs.Numbers.{Bytes}
@@ -9,12 +8,12 @@ use Rattle.states.specs.declared.state.State.{State}
 use Rattle.states.specs.declared.state.State.TheVariants as state
 use Rattle.states.specs.States.{EndValue}
 use Rattle.ends.specs.Calls.{stopped, out_refusal, opened}
-use Rattle.link.specs.Runs.{Sheets, SeatValue, seat, Deed, opens, ticks, fetches, stops, Moment, First, Opening, Fetch, Stop, StopDoes, Does}
+use Rattle.link.specs.Runs.{Sheets, SeatValue, seat, Deed, opens, ticks, fetches, stops, Moment, First, Fetch, Stop, StopDoes, Does}
 use Rattle.model.specs.Model.{Shape, Tel, Can, after, fresh}
 use Rattle.model.specs.Model as model
 use Rattle.link.proofs.Seats.{Sits, Seated}
 use Rattle.link.proofs.Shapes.{Looks, Seen, Acts, limits}
-use Rattle.link.proofs.Deeds.{seat_deed, stop_deed, took_deed}
+use Rattle.link.proofs.Deeds.{seat_deed, stop_deed}
 use Rattle.link.proofs.Ticking.{tick_acts}
 use Rattle.link.proofs.Fetching.{Heard, fetch_acts}
 

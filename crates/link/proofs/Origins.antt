@@ -1,5 +1,5 @@
 -- Where a string in the carrier came from: it lay there before any opening, or the far end put it in this run.
-use Rattle.std.proofs.Common.{◌≡◌, ℕ, Bool, true, false, ◌⊎◌, List, [], length, Some, None, Ok, Err, Option, Result, sym, refl, ap, ◌∙◌, subst, inl, inr, arith}
+use Rattle.std.proofs.Common.{◌≡◌, ℕ, Bool, true, false, ◌⊎◌, List, length, Some, None, Ok, Err, Option, Result, sym, refl, ap, subst, inl, inr, arith}
 use mathlib.Core.List.{Memᴰ}
 use Rattle.terms.specs.declared.refusal.Refusal.{Refusal}
 use Rattle.terms.specs.declared.role.Role.{Role}
@@ -7,11 +7,10 @@ use Rattle.terms.specs.declared.role.Role.TheVariants.{Initiator, Responder}
 use Rattle.terms.specs.Roles.{far}
 use Rattle.carrier.specs.declared.Keeping.{Keeping}
 use Rattle.carrier.specs.declared.Keeping.TheVariants.{Kept, NotKept}
-use Rattle.carrier.specs.Rules.{Meaning, Strings, PutRules, FetchRules, NoGains}
+use Rattle.carrier.specs.Rules.{Meaning, PutRules, FetchRules}
 use Rattle.states.specs.declared.state.State.{State}
-use Rattle.states.specs.States.{EndValue}
 use Rattle.ends.specs.Effects.{fetch_put}
-use Rattle.ends.specs.Calls.{Puts, PutDone, Ticked, TickDone, tick_refusal, FetchDone, fetch_refusal, came_way, stop_put, out_refusal, Opens, opening_put}
+use Rattle.ends.specs.Calls.{Puts, Ticked, tick_refusal, fetch_refusal, came_way, stop_put, out_refusal}
 use Rattle.link.specs.Times.{History, new, ◌▸◌, ◌≼◌, now', later}
 use Rattle.link.specs.Runs.{Sheets, LinkValue, seat, Deed, opens, ticks, fetches, stops, Moment, Opening, Tick, tick_puts, Fetch, FetchDoes, Stop, StopDoes, Does, Step, Ran}
 use Rattle.link.proofs.Seats.{Seated, seated}

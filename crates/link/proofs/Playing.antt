@@ -1,5 +1,5 @@
 -- From steps to a whole run.
-use Rattle.std.proofs.Common.{◌≡◌, ℕ, List, [], ◌∷◌, ◌++◌, map, length, take, drop, Some, None, vec_items, sym, refl, ap, ◌∙◌, subst, ap₂, append_assoc, append-nil}
+use Rattle.std.proofs.Common.{◌≡◌, ℕ, List, [], ◌∷◌, ◌++◌, map, drop, Some, None, sym, refl, ap, ◌∙◌, ap₂, append_assoc, append-nil}
 use Rattle.std.proofs.lemmas.List.{map_push}
 use Rattle.terms.specs.declared.role.Role.TheVariants.{Initiator, Responder}
 use Rattle.carrier.specs.Rules.{Meaning}
@@ -8,14 +8,12 @@ use Rattle.params.specs.declared.sheet.Sheet.{Sheet}
 use Rattle.ends.specs.declared.answer.Answer.{Answer}
 use Rattle.states.specs.declared.state.State.TheVariants.{WaitAu2, Listen}
 use Rattle.ends.specs.Calls.{opening_put}
-use Rattle.link.specs.declared.runs.Line.{Line}
 use Rattle.link.specs.declared.runs.Numbers.{Numbers}
 use Rattle.link.specs.declared.runs.Seats.{Seats}
-use Rattle.link.specs.declared.seat.Seat.{Seat}
 use Rattle.link.specs.Times.{new, ◌▸◌}
-use Rattle.link.specs.Runs.{Sheets, LinkValue, Moment, opens, unopened, at_place}
-use Rattle.link.specs.Seats.{seat_value, link_value, SeatOpened, Steps, moment, RunTo, SeatsOpened, Played}
-use Rattle.link.specs.Tells.{sheets_of, Asked, asked_of, Told, told_by, openings, Closed, RunMade}
+use Rattle.link.specs.Runs.{LinkValue, Moment, opens, unopened, at_place}
+use Rattle.link.specs.Seats.{seat_value, link_value, SeatOpened, Steps, moment, SeatsOpened, Played}
+use Rattle.link.specs.Tells.{sheets_of, asked_of, Told, openings, Closed, RunMade}
 
 pub played_none : {t : LinkValue} → Played t t [] []
 played_none {t} = record {

@@ -6,10 +6,10 @@ use Rattle.terms.specs.declared.role.Role.TheVariants.{Initiator, Responder}
 use Rattle.terms.specs.Roles.{far}
 use Rattle.carrier.specs.Rules.{Meaning}
 use Rattle.states.specs.States.{EndValue}
-use Rattle.ends.specs.Calls.{Ticked, tick_refusal, fetch_refusal, Fetched, stopped, out_refusal}
+use Rattle.ends.specs.Calls.{Ticked, tick_refusal, fetch_refusal, stopped}
 use Rattle.ends.proofs.Keeping.{Kept, kept_tick, kept_fetch}
 use Rattle.link.specs.Times.{History, new, ◌▸◌}
-use Rattle.link.specs.Runs.{Sheets, SeatValue, LinkValue, seat, Deed, opens, ticks, fetches, stops, Moment, Opening, Tick, Fetch, FetchDoes, Stop, StopDoes, Does, Step, unopened, Ran}
+use Rattle.link.specs.Runs.{Sheets, SeatValue, LinkValue, seat, Deed, opens, ticks, fetches, stops, Moment, Tick, Fetch, FetchDoes, Stop, StopDoes, Does, Ran}
 
 -- an end with the role and the parameter set of its side
 pub record Sits (sheets : Sheets) (s : Role) (e : EndValue) : Type 0 where

@@ -1,10 +1,9 @@
 -- A run of a link, seen from one of its ends, is a run of the model.
-use Rattle.std.proofs.Common.{◌≡◌, ℕ, Bool, ◌⊎◌, List, length, take, Some, None, Ok, Option, sym, refl, ap, ◌∙◌, subst, inl, inr, ⊎_elim, arith}
+use Rattle.std.proofs.Common.{◌≡◌, ℕ, Bool, List, length, take, Some, None, Ok, Option, sym, refl, ap, ◌∙◌, subst, ⊎_elim, arith}
 use mathlib.Core.List.{Memᴰ}
 use Rattle.terms.specs.declared.refusal.Refusal.{Refusal}
 use Rattle.terms.specs.declared.role.Role.{Role}
 use Rattle.terms.specs.declared.role.Role.TheVariants.{Initiator, Responder}
-use Rattle.terms.specs.Numbers.{Bytes}
 use Rattle.terms.specs.Roles.{far}
 use Rattle.codec.specs.Sealing.{Bears}
 use Rattle.codec.specs.Telegrams.{TelegramValue}
@@ -13,7 +12,7 @@ use Rattle.params.specs.Laws.{InRange}
 use Rattle.states.specs.States.{EndValue}
 use Rattle.ends.specs.Calls.{fetch_refusal}
 use Rattle.link.specs.Times.{History, new, ◌▸◌, ◌≼◌, now', later}
-use Rattle.link.specs.Runs.{Sheets, SeatValue, LinkValue, seat, Deed, Moment, Fetch, FetchDoes, came_string, Step, unopened, Ran}
+use Rattle.link.specs.Runs.{Sheets, LinkValue, seat, Moment, Fetch, FetchDoes, came_string, unopened, Ran}
 use Rattle.link.specs.Law.{Carries, Fresh, reads_by}
 use Rattle.model.specs.Model.{Who, here, there, Shape, Tel, Puts, Can, By, by}
 use Rattle.model.specs.Model as model
@@ -22,8 +21,8 @@ use Rattle.link.proofs.Origins.{PutBy, origin}
 use Rattle.link.proofs.Shapes.{Seen, limits}
 use Rattle.link.proofs.Deeds.{who, tel_of, deed_of}
 use Rattle.link.proofs.Fetching.{Heard}
-use Rattle.link.proofs.Moving.{Moves, moves}
-use Rattle.link.proofs.Fits.{FitSeat, fits}
+use Rattle.link.proofs.Moving.{moves}
+use Rattle.link.proofs.Fits.{fits}
 use Rattle.link.proofs.Telling.{puts_it}
 
 none_some : {A X : Type 0} (x : X) → ◌≡◌ {A = Option X} None (Some x) → A

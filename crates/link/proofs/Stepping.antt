@@ -1,5 +1,5 @@
 -- From what one call on an end ensures to one step of a run.
-use Rattle.std.proofs.Common.{◌≡◌, ℕ, ◌-◌, ◌<◌, ◌≤◌, Bool, true, false, cond, ltb, List, [], ◌∷◌, ◌++◌, length, take, Some, None, Ok, vec_items, Option, sym, refl, ap, ◌∙◌, subst, arith, ltb-true}
+use Rattle.std.proofs.Common.{◌≡◌, ℕ, ◌-◌, ◌≤◌, Bool, true, false, ltb, List, length, Some, None, Ok, vec_items, Option, sym, refl, ap, ◌∙◌, subst, arith, ltb-true}
 use Rattle.std.proofs.lemmas.Bool.{cond_both}
 use Rattle.terms.specs.declared.refusal.Refusal.{Refusal}
 use Rattle.terms.specs.declared.role.Role.{Role}
@@ -9,14 +9,13 @@ use Rattle.params.specs.declared.call.Action.{Action}
 use Rattle.params.specs.declared.call.Action.TheVariants as action
 use Rattle.params.specs.declared.call.Call.{Call}
 use Rattle.ends.specs.declared.answer.Answer.{Answer}
-use Rattle.ends.specs.declared.answer.Place.{Place}
 use Rattle.ends.specs.declared.ways.FetchWay.{FetchWay}
 use Rattle.ends.specs.declared.ways.FetchWay.TheVariants as fetch
 use Rattle.ends.specs.Calls.{Ticked, tick_refusal, Fetched, fetch_refusal, came_way, came_length, stop_put, out_refusal}
 use Rattle.ends.specs.Effects.{delivers, message_place, fetch_put}
 use Rattle.states.specs.States.{EndValue}
-use Rattle.link.specs.Runs.{Sheets, SeatValue, LinkValue, seat, Deed, opens, ticks, fetches, stops, Moment, Does, FetchDoes, StopDoes, at_place, tick_puts, came_string}
-use Rattle.link.specs.Seats.{Acts, StopsHeld, Within, Steps, moment}
+use Rattle.link.specs.Runs.{Sheets, SeatValue, LinkValue, seat, Deed, fetches, stops, Moment, Does, FetchDoes, StopDoes, at_place, tick_puts, came_string}
+use Rattle.link.specs.Seats.{Acts, StopsHeld, Within, Steps}
 use Rattle.link.specs.Tells.{deed_of}
 
 -- a tick delivers nothing

@@ -1,5 +1,5 @@
 -- The synchronising telegrams of a run are those of the model.
-use Rattle.std.proofs.Common.{◌≡◌, ℕ, Bool, true, false, cond, eqb, ◌⊎◌, List, length, take, Some, None, Option, sym, refl, ap, ◌∙◌, subst, inl, inr, ⊎_elim, arith}
+use Rattle.std.proofs.Common.{◌≡◌, ℕ, Bool, true, false, eqb, ◌⊎◌, List, length, take, Some, None, Option, sym, refl, ap, ◌∙◌, subst, inl, inr, ⊎_elim, arith}
 use Rattle.std.proofs.lemmas.Bool.{cond_both}
 use Rattle.terms.specs.declared.refusal.Refusal.{Refusal}
 use Rattle.terms.specs.declared.role.Role.{Role}
@@ -8,10 +8,9 @@ use Rattle.terms.specs.declared.counters.SequenceNumber.{SequenceNumber}
 use Rattle.terms.specs.declared.counters.ExecutionCycle.{ExecutionCycle}
 use Rattle.terms.specs.Numbers.{Bytes}
 use Rattle.codec.specs.Sealing.{Bears}
-use Rattle.codec.specs.Telegrams.{ContentValue, TelegramValue, content_type}
+use Rattle.codec.specs.Telegrams.{TelegramValue, content_type}
 use Rattle.states.specs.declared.state.State.{State}
 use Rattle.states.specs.declared.state.State.TheVariants as state
-use Rattle.states.specs.declared.state.Status.{Status}
 use Rattle.states.specs.declared.state.Status.TheVariants as status
 use Rattle.states.specs.declared.state.Words.{Words}
 use Rattle.ends.specs.declared.ways.TickWay.{TickWay}
@@ -23,12 +22,12 @@ use Rattle.ends.specs.declared.ways.FetchWay.TheVariants as fetch
 use Rattle.states.specs.States.{EndValue, status_of}
 use Rattle.ends.specs.Ways.{greatest, tick_way, fetch_way}
 use Rattle.ends.specs.Calls.{fetch_refusal, Octets}
-use Rattle.link.specs.Runs.{Sheets, SeatValue, seat, Deed, opens, ticks, fetches, stops, Moment, Fetch, FetchDoes, came_string, Does, Step}
-use Rattle.link.specs.Law.{Carries, Accepted, Synchronises, accepting, numbered_on, reads_by, ticked}
+use Rattle.link.specs.Runs.{Sheets, seat, Deed, opens, ticks, fetches, stops, Moment, Fetch, FetchDoes, came_string, Does, Step}
+use Rattle.link.specs.Law.{Carries, accepting, numbered_on, reads_by, ticked}
 use Rattle.model.specs.Model.{Tel, Syncs}
 use Rattle.model.specs.Model as model
-use Rattle.link.proofs.Deeds.{kind_of, tel_of, tel, silent_deed, tick_deed, ticked_deed, start_deed, first_deed, up_deed, fetch_deed, took_deed, stop_deed, seat_deed, deed_of}
-use Rattle.link.proofs.Reading.{Taken, FirstSpot, UpSpot, Started, content_of, takes_is, starts_is, carries_one}
+use Rattle.link.proofs.Deeds.{kind_of, tel_of, tel, silent_deed, tick_deed, start_deed, first_deed, up_deed, fetch_deed, took_deed, stop_deed, seat_deed, deed_of}
+use Rattle.link.proofs.Reading.{Taken, FirstSpot, UpSpot, content_of, takes_is, starts_is}
 use Rattle.link.proofs.Fetching.{told}
 
 none_some : {A X : Type 0} (x : X) → ◌≡◌ {A = Option X} None (Some x) → A

@@ -1,30 +1,27 @@
 -- A data frame that a call puts, as the model has it.
-use Rattle.std.proofs.Common.{◌≡◌, ℕ, ◌+◌, Bool, true, false, cond, eqb, List, length, take, Some, None, Option, sym, refl, ap, ◌∙◌, subst, arith}
+use Rattle.std.proofs.Common.{◌≡◌, ℕ, ◌+◌, Bool, true, false, cond, List, length, take, Some, None, Option, sym, ap, ◌∙◌, subst, arith}
 use Rattle.terms.specs.declared.refusal.Refusal.{Refusal}
 use Rattle.terms.specs.declared.role.Role.{Role}
 use Rattle.terms.specs.declared.role.Role.TheVariants.{Initiator, Responder}
 use Rattle.terms.specs.declared.counters.SequenceNumber.{SequenceNumber}
 use Rattle.codec.specs.Telegrams.{TelegramValue}
 use Rattle.params.specs.Laws.{InRange}
-use Rattle.states.specs.declared.state.State.{State}
-use Rattle.states.specs.declared.state.State.TheVariants as state
-use Rattle.ends.specs.declared.ways.TickWay.TheVariants as tick
 use Rattle.ends.specs.declared.ways.Exchange.TheVariants as exchange
 use Rattle.ends.specs.declared.ways.FetchWay.{FetchWay}
 use Rattle.ends.specs.declared.ways.FetchWay.TheVariants as fetch
 use Rattle.states.specs.States.{EndValue}
-use Rattle.ends.specs.Ways.{greatest, tick_way, fetch_way}
+use Rattle.ends.specs.Ways.{fetch_way}
 use Rattle.ends.specs.Effects.{fetch_put, sent_content}
 use Rattle.ends.specs.Calls.{Ticked, tick_refusal, fetch_refusal, came_way, out_refusal}
-use Rattle.link.specs.Runs.{Sheets, SeatValue, seat, Deed, opens, ticks, fetches, stops, Moment, Tick, tick_puts, Fetch, FetchDoes, came_string, Stop, StopDoes, Does}
+use Rattle.link.specs.Runs.{Sheets, seat, Deed, opens, ticks, fetches, stops, Moment, Tick, tick_puts, Fetch, FetchDoes, came_string, Stop, StopDoes, Does}
 use Rattle.link.specs.Law.{Carries, ticked}
 use Rattle.model.specs.Model.{Shape, Tel, Puts}
 use Rattle.model.specs.Model as model
-use Rattle.link.proofs.Seats.{Sits, Seated}
+use Rattle.link.proofs.Seats.{Seated}
 use Rattle.link.proofs.Shapes.{Early, Starts, Looks, Seen}
 use Rattle.link.proofs.Deeds.{tel_of, tel, start_deed, fetch_deed, tick_deed, ticked_deed, took_deed, seat_deed}
 use Rattle.link.proofs.Ticking.{message_one}
-use Rattle.link.proofs.Putting.{Fit, TickSent, tick_carries, FetchSent, sent_in_ar, sent_in_ec, sent_in_first, sent_in_up, fetch_carries, opening_carries, stop_carries}
+use Rattle.link.proofs.Putting.{Fit, tick_carries, FetchSent, sent_in_ar, sent_in_ec, sent_in_first, sent_in_up, fetch_carries, opening_carries, stop_carries}
 use Rattle.link.proofs.Fits.{FitSeat}
 
 none : {A : Type 0} (x : List ℕ) → None ≡ Some x → A

@@ -1,5 +1,5 @@
 -- A tick as a deed of the model.
-use Rattle.std.proofs.Common.{◌≡◌, ℕ, ◌+◌, ◌<◌, ◌≤◌, Bool, true, false, cond, ◌&&◌, eqb, ltb, leb, ◌⊎◌, List, length, Some, None, Option, sym, refl, ap, ◌∙◌, subst, inl, inr, arith}
+use Rattle.std.proofs.Common.{◌≡◌, ℕ, ◌+◌, ◌≤◌, Bool, true, false, eqb, ltb, leb, ◌⊎◌, List, length, Some, None, Option, sym, refl, ap, ◌∙◌, subst, inl, inr}
 use Rattle.std.proofs.lemmas.Bool.{cond_both, eqb-true, eqb-false, ltb-false}
 use Rattle.terms.specs.declared.refusal.Refusal.{Refusal}
 use Rattle.terms.specs.declared.refusal.Refusal.TheVariants as refusal
@@ -17,7 +17,7 @@ use Rattle.states.specs.declared.state.Words.{Words}
 use Rattle.ends.specs.declared.ways.TickWay.{TickWay}
 use Rattle.ends.specs.declared.ways.TickWay.TheVariants as tick
 use Rattle.states.specs.States.{EndValue, in_up}
-use Rattle.ends.specs.Ways.{greatest, limited, up_way, start_limit, risen_way, tick_way}
+use Rattle.ends.specs.Ways.{greatest, limited, start_limit, risen_way, tick_way}
 use Rattle.ends.specs.Effects.{after_tick, one_more}
 use Rattle.ends.specs.Puts.{longest_frame}
 use Rattle.ends.specs.Calls.{call_refusal, out_refusal, tick_refusal, message_refusal, Ticked}
@@ -25,7 +25,7 @@ use Rattle.link.specs.Runs.{Moment, Tick}
 use Rattle.link.specs.Law.{goes_on, ticked}
 use Rattle.model.specs.Model.{Shape, Tel, Deed}
 use Rattle.model.specs.Model as model
-use Rattle.link.proofs.Shapes.{Early, Starting, Waiting, Running, Starts, Looks, Acts}
+use Rattle.link.proofs.Shapes.{Early, Running, Starts, Looks, Acts}
 use Rattle.link.proofs.Deeds.{silent_deed, tick_deed, ticked_deed}
 
 some_in : {A : Type 0} (P : A → Type 0) (o : Option A) → Type 0

@@ -1,5 +1,5 @@
 -- The proved examples: one table, about the definitions that the promises cite.
-use Rattle.std.specs.Prelude.{◌≡◌, ℕ, true, false, [], ◌∷◌, pos, ◌-ℤ◌, Ok, Err, ◌==◌}
+use Rattle.std.specs.Prelude.{◌≡◌, true, false, [], ◌∷◌, pos, ◌-ℤ◌, Ok, Err, ◌==◌}
 use Rattle.terms.specs.declared.counters.SequenceNumber.{SequenceNumber}
 use Rattle.safety.specs.declared.crc.Channel.TheVariants.{First, Second}
 use Rattle.safety.specs.Remainder.{polynomial, remainder}

@@ -1,5 +1,5 @@
 -- The law of the link, over whole runs.
-use Rattle.std.specs.Prelude.{◌≡◌, ℕ, ◌+◌, ◌-◌, ◌<◌, ◌≤◌, Bool, true, false, cond, not, ◌⊎◌, List, [], length, ℤ, pos, ◌+ℤ◌, ◌-ℤ◌, ◌≤ℤ◌, Some, None, Ok, Option, ◌==◌}
+use Rattle.std.specs.Prelude.{◌≡◌, ℕ, ◌+◌, ◌-◌, ◌<◌, ◌≤◌, Bool, true, false, not, ◌⊎◌, List, length, ℤ, pos, ◌+ℤ◌, ◌-ℤ◌, ◌≤ℤ◌, Some, None, Ok, Option, ◌==◌}
 use mathlib.Core.List.{Memᴰ}
 use Rattle.terms.specs.declared.refusal.Refusal.{Refusal}
 use Rattle.terms.specs.declared.refusal.Refusal.TheVariants as refusal
@@ -24,7 +24,7 @@ use Rattle.ends.specs.declared.ways.FetchWay.TheVariants as fetch
 use Rattle.states.specs.States.{EndValue, status_of, in_up}
 use Rattle.ends.specs.Ways.{greatest, fetch_way}
 use Rattle.link.specs.Times.{History, new, ◌▸◌, ◌≼◌}
-use Rattle.link.specs.Runs.{Sheets, SeatValue, LinkValue, seat, Deed, opens, ticks, fetches, stops, Moment, Ran}
+use Rattle.link.specs.Runs.{Sheets, LinkValue, seat, Deed, opens, ticks, fetches, stops, Moment, Ran}
 
 -- Ticks:
 

@@ -1,5 +1,5 @@
 -- Runs of one link: any succession of openings, ticks, fetches and stops on the two ends of one carrier.
-use Rattle.std.specs.Prelude.{◌≡◌, ℕ, ◌-◌, Bool, true, false, List, [], ◌∷◌, ◌++◌, length, take, drop, Some, None, Option}
+use Rattle.std.specs.Prelude.{◌≡◌, ℕ, ◌-◌, Bool, true, false, List, [], length, take, drop, Some, None, Option}
 use Rattle.terms.specs.declared.refusal.Refusal.{Refusal}
 use Rattle.terms.specs.declared.refusal.Refusal.TheVariants.{EndIsOut}
 use Rattle.terms.specs.declared.role.Role.{Role}

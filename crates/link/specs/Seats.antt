@@ -17,7 +17,6 @@ use Rattle.ends.specs.declared.session.StopToken.{StopToken}
 use Rattle.states.specs.declared.state.State.{State}
 use Rattle.ends.specs.Calls.{Opens, opening_refusal, Ticks, Fetches, Stops, answering}
 use Rattle.ends.specs.Ends.{end_value}
-use Rattle.ends.specs.Puts.{longest_frame}
 use Rattle.states.specs.States.{EndValue}
 use Rattle.link.specs.declared.runs.Line.{Line}
 use Rattle.link.specs.declared.runs.Numbers.{Numbers}
@@ -25,7 +24,7 @@ use Rattle.link.specs.declared.runs.RunError.{RunError}
 use Rattle.link.specs.declared.runs.RunError.TheVariants.{NoMemory, Refused}
 use Rattle.link.specs.declared.runs.Seats.{Seats}
 use Rattle.link.specs.declared.seat.Seat.{Seat}
-use Rattle.link.specs.Times.{History, new, ◌▸◌}
+use Rattle.link.specs.Times.{History}
 use Rattle.link.specs.Runs.{Sheets, SeatValue, LinkValue, Moment, Step, Ran, at_place}
 use Rattle.link.specs.Tells.{sheets_of, Asked, deeds, openings, deed_of, asked_of, Told, told, told_by, RunRefused}
 

@@ -1,6 +1,6 @@
 -- Two ends that open, number their telegrams, ask for acknowledgements and keep an expectation, seen from one of them, the receiver.
 -- What a call does to an end is a `Deed`; which call did what is left to the two functions `who` and `deed`.
-use Rattle.std.specs.Prelude.{◌≡◌, ◌⊎◌, ℕ, ◌+◌, ◌≤◌, ◌<◌}
+use Rattle.std.specs.Prelude.{◌≡◌, ◌⊎◌, ℕ, ◌+◌, ◌≤◌}
 use Rattle.terms.specs.declared.role.Role.{Role}
 use Rattle.terms.specs.declared.role.Role.TheVariants.{Initiator, Responder}
 use Rattle.terms.specs.Roles.{far}

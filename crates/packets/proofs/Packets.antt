@@ -1,12 +1,12 @@
 -- Laws of the packet layout: a string is read as the one packet of which it is a writing, or there is one reason why it is none.
-use Rattle.std.proofs.Common.{◌≡◌, ℕ, ◌+◌, ◌-◌, ◌*◌, ◌<◌, ◌≤◌, Bool, true, false, cond, eqb, leb, List, [], ◌∷◌, ◌++◌, length, get_or, take, drop, Ok, Err, Result, sym, refl, ap, ◌∙◌, arith, eq-eqb, ne_eqb, le-leb}
+use Rattle.std.proofs.Common.{◌≡◌, ℕ, ◌+◌, ◌*◌, ◌<◌, ◌≤◌, List, length, get_or, drop, Ok, Err, ◌∙◌, eq-eqb, ne_eqb, le-leb}
 use borrow.Author.Tests.{lt-leb}
 use Rattle.terms.specs.declared.refusal.Refusal.{Refusal}
 use Rattle.terms.specs.declared.refusal.Refusal.TheVariants as refusal
 use Rattle.packets.specs.declared.packet.PacketType.{PacketType}
 use Rattle.packets.specs.declared.packet.PacketType.TheVariants.{Au1, Au2, Data, Di}
 use Rattle.terms.specs.Outcomes.{then}
-use Rattle.packets.specs.Packets.{PacketValue, type_code, type_of, coded_type, frame_in, suited, read_packet}
+use Rattle.packets.specs.Packets.{type_code, type_of, coded_type, frame_in, suited, read_packet}
 
 pub read_short : (s : List ℕ) → length s < 6 → read_packet s ≡ Err refusal.PacketLength
 read_short s h = rw (lt-leb 6 (length s) h)

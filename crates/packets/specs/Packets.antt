@@ -1,7 +1,7 @@
 -- The layout of the packets: how a frame is wrapped, and what a string is read as.
 -- A packet is its length field (2 bytes: how many bytes follow it), a transport number (2 bytes), the N/R byte, the packet type (1 byte),
 -- what the type puts before the frame, and the frame.
-use Rattle.std.specs.Prelude.{ℕ, ◌+◌, ◌-◌, ◌*◌, ◌^◌, Bool, true, false, cond, List, [], ◌∷◌, ◌++◌, length, drop, replicate, Ok, Err, Result, ◌==◌, nat_le, nat_lt, slice_index}
+use Rattle.std.specs.Prelude.{ℕ, ◌+◌, ◌-◌, ◌*◌, ◌^◌, Bool, true, cond, List, [], ◌∷◌, ◌++◌, length, drop, replicate, Ok, Err, Result, ◌==◌, nat_le, nat_lt, slice_index}
 use Rattle.terms.specs.declared.refusal.Refusal.{Refusal}
 use Rattle.terms.specs.declared.refusal.Refusal.TheVariants as refusal
 use Rattle.packets.specs.declared.packet.Cable.{Cable}

@@ -1,5 +1,5 @@
 -- The frames of two carriers' packets, and that two puts below keep the rules for the pair.
-use Rattle.std.proofs.Common.{◌≡◌, ℕ, ◌≤◌, Bool, true, false, cond, leb, ◌⊎◌, List, [], ◌∷◌, ◌++◌, length, Ok, Err, Result, sym, refl, ap, ◌∙◌, subst, ap₂, inl, inr, ⊎_elim}
+use Rattle.std.proofs.Common.{◌≡◌, ℕ, ◌≤◌, Bool, true, false, cond, leb, List, [], ◌∷◌, ◌++◌, length, Ok, Err, Result, refl, subst, ap₂, inl, inr, ⊎_elim}
 use mathlib.Core.List.{Memᴰ}
 use Rattle.std.specs.List.{flat_map}
 use Rattle.terms.specs.declared.refusal.Refusal.{Refusal}

@@ -1,5 +1,5 @@
 -- A frame that is short enough can be wrapped.
-use Rattle.std.proofs.Common.{◌≡◌, ℕ, ◌+◌, ◌-◌, ◌^◌, ◌<◌, ◌≤◌, true, ltb, leb, List, ◌++◌, length, take, drop, Ok, Result, sym, refl, ap, ◌∙◌, arith, length-append, take_at, lt-ltb, le-leb}
+use Rattle.std.proofs.Common.{◌≡◌, ℕ, ◌+◌, ◌-◌, ◌^◌, ◌≤◌, true, leb, List, ◌++◌, length, take, drop, Ok, Result, refl, ap, ◌∙◌, arith, length-append, take_at, lt-ltb, le-leb}
 use Rattle.terms.specs.declared.refusal.Refusal.{Refusal}
 use Rattle.packets.specs.declared.packet.Cable.{Cable}
 use Rattle.packets.specs.declared.packet.PacketType.{PacketType}

@@ -1,5 +1,5 @@
 -- What comes out of a pair: the frames of good packets.
-use Rattle.std.specs.Prelude.{◌≡◌, ℕ, ◌-◌, min, cond, List, [], ◌∷◌, ◌++◌, length, take, drop, Some, None, Ok, Err, Option, Result, nat_le}
+use Rattle.std.specs.Prelude.{ℕ, ◌-◌, min, cond, List, [], ◌∷◌, ◌++◌, length, take, drop, Some, None, Ok, Err, Option, Result, nat_le}
 use Rattle.std.specs.List.{flat_map}
 use Rattle.terms.specs.declared.refusal.Refusal.{Refusal}
 use Rattle.packets.specs.declared.packet.TransportNumber.{TransportNumber}

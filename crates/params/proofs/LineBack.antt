@@ -1,5 +1,5 @@
 -- A line that was read is written as it stood.
-use Rattle.std.proofs.Common.{◌≡◌, ℕ, ◌+◌, ◌-◌, ◌^◌, ◌<◌, ◌≤◌, List, [], ◌∷◌, ◌++◌, ℤ, Ok, Err, decimal, sym, refl, ap, ◌∙◌, subst, append_assoc, arith}
+use Rattle.std.proofs.Common.{◌≡◌, ℕ, ◌^◌, ◌<◌, ◌≤◌, List, ◌∷◌, ◌++◌, ℤ, Ok, decimal, sym, ap, ◌∙◌, append_assoc, arith}
 use Rattle.std.proofs.lemmas.Bool.{eqb-true}
 use Rattle.std.specs.Fmt.{signed_decimal}
 use Rattle.terms.specs.declared.role.Role.{Role}
@@ -7,10 +7,10 @@ use Rattle.terms.specs.declared.role.Role.TheVariants.{Initiator, Responder}
 use Rattle.texts.specs.declared.columns.Column.{Column}
 use Rattle.texts.specs.Columns.{text_in, number_in, below_in, hex_in}
 use Rattle.texts.specs.Numbers.{read_number, read_below, read_hex}
-use Rattle.texts.specs.Pieces.{value_at, count_of}
+use Rattle.texts.specs.Pieces.{value_at}
 use Rattle.texts.specs.Writing.{hex_text}
 use Rattle.texts.proofs.HexTrips.{then_parts, hex_back, below_back}
-use Rattle.texts.proofs.Joins.{values_text, values_back}
+use Rattle.texts.proofs.Joins.{values_back}
 use Rattle.texts.proofs.Trips.{number_back, number_parts}
 use Rattle.params.specs.declared.line.Identifiers.{Identifiers}
 use Rattle.params.specs.declared.line.Ages.{Ages}

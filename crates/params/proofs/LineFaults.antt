@@ -1,20 +1,14 @@
 -- The fault of a line is its first.
-use Rattle.std.proofs.Common.{◌≡◌, ℕ, ◌+◌, ◌-◌, ◌<◌, ◌≤◌, Bool, true, false, cond, eqb, ◌≢◌, ◌⊎◌, List, [], ◌∷◌, length, get_or, Ok, Err, Result, sym, refl, ap, ◌∙◌, subst, inl, inr, ⊎_elim, arith}
-use Rattle.std.proofs.lemmas.Bool.{cases_eq, eqb-true, eqb-false}
+use Rattle.std.proofs.Common.{◌≡◌, ℕ, ◌+◌, ◌≤◌, List, Ok, Err, Result, sym, refl, subst, ⊎_elim, arith}
+use Rattle.std.proofs.lemmas.Bool.{cases_eq}
 use Rattle.terms.specs.Outcomes.{then}
 use Rattle.terms.specs.declared.role.Role.{Role}
 use Rattle.terms.specs.declared.role.Role.TheVariants.{Initiator, Responder}
 use Rattle.texts.specs.declared.fault.Fault.{Fault}
-use Rattle.texts.specs.declared.fault.Fault.TheVariants.{WrongCount, DifferingBits}
 use Rattle.texts.specs.declared.fault.LineFault.{LineFault}
-use Rattle.texts.specs.Columns.{text_in, number_in, below_in, hex_in}
-use Rattle.texts.specs.Faults.{at_column, whole_line}
+use Rattle.texts.specs.Columns.{text_in, hex_in}
+use Rattle.texts.specs.Faults.{at_column}
 use Rattle.texts.specs.Numbers.{read_number, read_below, read_hex}
-use Rattle.texts.specs.Pieces.{count_of}
-use Rattle.params.specs.declared.line.Identifiers.{Identifiers}
-use Rattle.params.specs.declared.line.Ages.{Ages}
-use Rattle.params.specs.declared.line.Limits.{Limits}
-use Rattle.params.specs.declared.values.Values.{Values}
 use Rattle.params.specs.Columns.{versions, periods, windows, mmins, mmaxs, asks, waits, setups, datas, ecs}
 use Rattle.params.specs.FirstFault.{verdict, judged, GoodBefore, FirstInLine}
 use Rattle.params.specs.Lines.{role_column, read_identifiers, read_ages, read_limits}

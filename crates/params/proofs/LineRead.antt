@@ -1,5 +1,5 @@
 -- A line that is written reads back as its values.
-use Rattle.std.proofs.Common.{◌≡◌, ℕ, suc, ◌+◌, ◌-◌, ◌^◌, ◌<◌, ◌≤◌, true, leb, List, [], ◌∷◌, ◌++◌, length, get_or, ℤ, pos, negsuc, Ok, Err, decimal, sym, refl, ap, ◌∙◌, subst, append_assoc, arith}
+use Rattle.std.proofs.Common.{◌≡◌, ℕ, ◌^◌, ◌<◌, ◌≤◌, List, [], ◌∷◌, get_or, ℤ, pos, negsuc, Ok, decimal, sym, refl, ap, ◌∙◌, subst, append_assoc, arith}
 use Rattle.std.proofs.lemmas.Int.{ints}
 use Rattle.std.proofs.lemmas.Bool.{cond-true, eq-eqb, and_from, le-leb}
 use Rattle.std.proofs.lemmas.Bool.Decides.{nat_tests}
@@ -16,10 +16,10 @@ use Rattle.texts.proofs.Joins.{spaced, Frees, count_spaced, value_spaced, spaced
 use Rattle.texts.proofs.Trips.{number_reads, decimal_free}
 use Rattle.params.specs.declared.params.Params.{Params}
 use Rattle.params.specs.declared.values.Values.{Values}
-use Rattle.params.specs.Checks.{kept, kept_below, apart, checked}
+use Rattle.params.specs.Checks.{kept, kept_below, checked}
 use Rattle.params.specs.Columns.{KeepsBelow, versions, periods, windows, mmins, mmaxs, asks, waits, setups, datas, ecs}
-use Rattle.params.specs.Lines.{role_column, read_identifiers, read_ages, read_limits, gathered, read_line}
-use Rattle.params.specs.Writing.{role_number, identifiers_text, ages_text, limits_text, line_text}
+use Rattle.params.specs.Lines.{role_column, read_identifiers, read_ages, read_limits, read_line}
+use Rattle.params.specs.Writing.{role_number, line_text}
 use Rattle.params.proofs.Outcomes.{at_ok}
 
 -- the values of a line, each as it is written

@@ -1,5 +1,5 @@
 -- The fault of a script is its first.
-use Rattle.std.proofs.Common.{◌≡◌, ℕ, zero, suc, ◌+◌, ◌-◌, ◌<◌, ◌≤◌, Bool, true, false, cond, eqb, List, [], ◌∷◌, length, get_or, is_ok, IfErr, Ok, Err, Result, sym, refl, ap, ◌∙◌, subst, ⊎_elim, arith}
+use Rattle.std.proofs.Common.{◌≡◌, ℕ, zero, suc, ◌+◌, ◌-◌, ◌<◌, ◌≤◌, Bool, true, false, cond, eqb, List, [], ◌∷◌, length, get_or, is_ok, IfErr, Ok, Err, Result, sym, refl, subst, ⊎_elim, arith}
 use Rattle.std.proofs.lemmas.Bool.{cases_eq}
 use Rattle.std.specs.Str.{bytes_eq}
 use Rattle.terms.specs.Outcomes.{then}
@@ -11,14 +11,14 @@ use Rattle.texts.specs.declared.fault.LineFault.{LineFault}
 use Rattle.texts.specs.declared.fault.FileFault.{FileFault}
 use Rattle.texts.specs.Columns.{text_in}
 use Rattle.texts.specs.Faults.{at_column, on_line, whole_line}
-use Rattle.texts.specs.Headings.{read_names, read_end}
+use Rattle.texts.specs.Headings.{read_names}
 use Rattle.texts.specs.Pieces.{before, after, count_of}
 use Rattle.params.specs.declared.call.Deed.{Deed}
 use Rattle.params.specs.declared.script.Head.{Head}
 use Rattle.params.specs.declared.script.ScriptError.{ScriptError}
 use Rattle.params.specs.declared.script.ScriptError.TheVariants as script-error
 use Rattle.params.specs.Calls.{Said, spoken, Answers}
-use Rattle.params.specs.FirstFault.{by_fault_first, verdict, call_columns, past_lines, from_line, FirstInScript}
+use Rattle.params.specs.FirstFault.{by_fault_first, verdict, call_columns, past_lines, FirstInScript}
 use Rattle.params.specs.Scripts.{read_role, read_deed, read_text, read_head, message_in, read_call, read_calls, ahead, script_names, read_script}
 
 -- the values before column n of a line are good

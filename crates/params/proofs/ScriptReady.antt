@@ -1,23 +1,22 @@
 -- A script that is accepted has few calls, with short printable messages.
-use Rattle.std.proofs.Common.{◌≡◌, ℕ, zero, suc, ◌+◌, ◌≤◌, Bool, true, false, cond, ◌&&◌, eqb, leb, List, [], ◌∷◌, length, IfOk, Ok, Err, codes, Result, sym, refl, ap, ◌∙◌, subst, arith}
+use Rattle.std.proofs.Common.{◌≡◌, ℕ, zero, suc, ◌+◌, ◌≤◌, Bool, true, false, cond, ◌&&◌, eqb, leb, List, [], ◌∷◌, length, IfOk, Ok, Err, codes, Result, refl, subst, arith}
 use Rattle.std.proofs.lemmas.Bool.{and_parts, leb-true}
 use Rattle.std.specs.Str.{bytes_eq}
 use Rattle.terms.specs.Outcomes.{then}
-use Rattle.terms.specs.declared.role.Role.{Role}
 use Rattle.texts.specs.declared.fault.Fault.TheVariants.{WrongForm}
 use Rattle.texts.specs.declared.fault.File.TheVariants.{Script}
 use Rattle.texts.specs.declared.fault.FileFault.{FileFault}
 use Rattle.texts.specs.Columns.{text_in}
 use Rattle.texts.specs.Faults.{at_column, on_line}
 use Rattle.texts.specs.Headings.{read_names, read_end}
-use Rattle.texts.specs.Pieces.{before, after, count_of}
+use Rattle.texts.specs.Pieces.{before, after}
 use Rattle.texts.specs.Words.{printable, is_word}
 use Rattle.texts.proofs.HexTrips.{then_parts}
 use Rattle.params.specs.declared.call.Deed.{Deed}
 use Rattle.params.specs.declared.call.Deed.TheVariants as deed
 use Rattle.params.specs.declared.script.Head.{Head}
 use Rattle.params.specs.declared.script.ScriptError.{ScriptError}
-use Rattle.params.specs.Calls.{Said, carried, spoken, Answers}
+use Rattle.params.specs.Calls.{Said, carried, Answers}
 use Rattle.params.specs.Laws.{Ready, AllReady, ReadyScript}
 use Rattle.params.specs.Scripts.{read_role, read_deed, read_word, read_text, message_in, read_head, read_call, read_calls, ahead, script_names, read_script}
 use Rattle.params.proofs.Outcomes.{ok_same, at_parts, on_parts, cond_ok}

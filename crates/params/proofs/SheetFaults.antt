@@ -1,8 +1,6 @@
 -- The fault of a sheet is its first.
-use Rattle.std.proofs.Common.{◌≡◌, ℕ, zero, suc, ◌+◌, ◌-◌, ◌<◌, ◌≤◌, Bool, true, false, cond, eqb, ◌≢◌, ◌⊎◌, List, [], ◌∷◌, length, get_or, ℤ, is_ok, IfErr, Ok, Err, Result, sym, refl, ap, ◌∙◌, subst, inl, inr, ⊎_elim, arith}
+use Rattle.std.proofs.Common.{◌≡◌, ℕ, zero, suc, ◌-◌, ◌<◌, ◌≤◌, Bool, true, false, cond, eqb, ◌⊎◌, List, [], ◌∷◌, length, get_or, ℤ, is_ok, IfErr, Ok, Err, Result, sym, refl, ◌∙◌, subst, inl, inr, ⊎_elim, arith}
 use Rattle.std.proofs.lemmas.Bool.{eqb-true, eqb-false}
-use Rattle.std.proofs.lemmas.Int.{ints}
-use Rattle.std.proofs.lemmas.Bool.Decides.{nat_tests}
 use Rattle.std.specs.Str.{bytes_eq}
 use Rattle.terms.specs.Outcomes.{then}
 use Rattle.terms.specs.declared.role.Role.{Role}
@@ -14,8 +12,7 @@ use Rattle.texts.specs.declared.fault.LineFault.{LineFault}
 use Rattle.texts.specs.declared.fault.FileFault.{FileFault}
 use Rattle.texts.specs.Columns.{text_in, number_in, below_in}
 use Rattle.texts.specs.Faults.{whole_line, on_line}
-use Rattle.texts.specs.Headings.{read_names, read_end}
-use Rattle.texts.specs.Numbers.{Within, within, read_number, read_below}
+use Rattle.texts.specs.Numbers.{within, read_number, read_below}
 use Rattle.texts.specs.Pieces.{before, after, count_of}
 use Rattle.texts.proofs.HexTrips.{then_parts, then_at, below_kept_in}
 use Rattle.texts.proofs.Trips.{number_parts}
@@ -26,11 +23,11 @@ use Rattle.params.specs.declared.values.Values.{Values}
 use Rattle.params.specs.declared.sheet.Sheet.{Sheet as SheetSets}
 use Rattle.params.specs.Made.{sheet_values}
 use Rattle.params.specs.Checks.{kept, kept_below, apart, checked}
-use Rattle.params.specs.Columns.{names, KeepsBelow, differing, distance, versions, periods, windows, mmins, mmaxs, asks, waits, setups, datas, ecs}
-use Rattle.params.specs.FirstFault.{GoodBefore, FirstInLine, from_line, good_lines, role_of, Wrong, not_names, not_ended, one_more, in_line, FirstFault}
+use Rattle.params.specs.Columns.{names, differing, distance, versions, periods, windows, mmins, mmaxs, asks, waits, setups, datas, ecs}
+use Rattle.params.specs.FirstFault.{GoodBefore, FirstInLine, from_line, good_lines, role_of, not_names, not_ended, one_more, in_line, FirstFault}
 use Rattle.params.specs.Lines.{read_identifiers, read_ages, read_limits, gathered, read_line}
-use Rattle.params.specs.Sheets.{no_more, read_row, read_rows, read_sheet}
-use Rattle.params.proofs.Outcomes.{ok_same, at_parts, cond_ok}
+use Rattle.params.specs.Sheets.{read_row, read_rows, read_sheet}
+use Rattle.params.proofs.Outcomes.{ok_same, at_parts}
 use Rattle.params.proofs.LineFaults.{Firsts, steps, identifiers_first, ages_first, limits_first}
 use Rattle.params.proofs.LineRead.{kept_at, below_kept}
 

@@ -1,5 +1,5 @@
 -- A sheet that is written reads back, and a sheet that was read is written as it stood.
-use Rattle.std.proofs.Common.{◌≡◌, ℕ, ◌+◌, Bool, true, false, cond, eqb, ◌≢◌, List, [], ◌∷◌, ◌++◌, length, IfOk, Ok, Err, Result, sym, refl, ap, ◌∙◌, subst, arith}
+use Rattle.std.proofs.Common.{◌≡◌, ℕ, Bool, true, false, cond, eqb, ◌≢◌, List, [], ◌∷◌, ◌++◌, length, IfOk, Ok, Err, Result, sym, refl, ap, ◌∙◌, arith}
 use Rattle.std.proofs.lemmas.Slice.Eq.{bytes_eq-Decides}
 use Rattle.std.proofs.lemmas.List.{nil_from_length}
 use Rattle.std.proofs.lemmas.Bool.{cond-true, cond-false, eqb-true, eqb-false, ne_eqb}
@@ -8,7 +8,6 @@ use Rattle.terms.specs.declared.role.Role.{Role}
 use Rattle.terms.specs.declared.role.Role.TheVariants.{Initiator, Responder}
 use Rattle.texts.specs.declared.fault.File.TheVariants.{Sheet}
 use Rattle.texts.specs.declared.fault.Fault.TheVariants.{NamesDiffer, WrongCount}
-use Rattle.texts.specs.declared.fault.LineFault.{LineFault}
 use Rattle.texts.specs.Faults.{on_line, whole_line}
 use Rattle.texts.specs.Headings.{read_names, read_end}
 use Rattle.texts.specs.Pieces.{before, after, count_of}

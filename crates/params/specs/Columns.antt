@@ -1,8 +1,8 @@
 -- The columns of a sheet: the place and the range of each, named once.
-use Rattle.std.specs.Prelude.{ℕ, ◌^◌, ◌<◌, Bool, cond, ◌&&◌, List, ℤ, pos, neg_ℤ, ◌≤ℤ◌, codes, bit_xor, count_ones, int_le}
+use Rattle.std.specs.Prelude.{ℕ, ◌^◌, ◌<◌, Bool, ◌&&◌, List, ℤ, pos, neg_ℤ, ◌≤ℤ◌, codes, bit_xor, count_ones, int_le}
 use Rattle.texts.specs.declared.columns.Column.{Column}
 use Rattle.texts.specs.declared.numbers.Range.{Range}
-use Rattle.texts.specs.Numbers.{Within, within}
+use Rattle.texts.specs.Numbers.{Within}
 
 -- the line of names
 abbrev pub names : List ℕ

@@ -1,5 +1,5 @@
 -- What a railway may rely on, in its own words.
-use Rattle.std.specs.Prelude.{◌≡◌, ℕ, ◌≤◌, true, List, [], ◌∷◌, length, ℤ, pos, negsuc, ◌≤ℤ◌, bit_xor, count_ones}
+use Rattle.std.specs.Prelude.{◌≡◌, ◌≤◌, true, List, [], ◌∷◌, length, negsuc, ◌≤ℤ◌, bit_xor, count_ones}
 use Rattle.texts.specs.Words.{printable}
 use Rattle.params.specs.Calls.{Said}
 use Rattle.params.specs.declared.values.Values.{Values}

@@ -1,5 +1,5 @@
 -- The listing grows by one line with each call; a run has as many lines as calls.
-use Rattle.std.proofs.Common.{◌≡◌, ℕ, suc, ◌+◌, ◌-◌, ◌<◌, ◌≤◌, List, [], ◌∷◌, ◌++◌, map, length, get_or, take, drop, sym, refl, ap, ◌∙◌, ap₂, append_assoc, append-nil, add-zero, arith, length-append, length-drop, length-take}
+use Rattle.std.proofs.Common.{◌≡◌, ℕ, suc, ◌+◌, ◌<◌, List, [], ◌∷◌, ◌++◌, map, length, get_or, take, sym, refl, ap, ◌∙◌, ap₂, append_assoc, append-nil, add-zero, arith, length-append, length-drop, length-take}
 use Rattle.std.proofs.lemmas.List.{length-map, take_more}
 use Rattle.carrier.specs.Rules.{Meaning}
 use Rattle.params.specs.declared.call.Call.{Call}

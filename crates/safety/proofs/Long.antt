@@ -1,5 +1,5 @@
 -- Long division gives the remainder.
-use Rattle.std.proofs.Common.{◌≡◌, ℕ, zero, suc, ◌+◌, ◌*◌, ◌/◌, ◌%◌, ◌^◌, ◌<◌, List, [], ◌∷◌, ◌++◌, replicate, sym, refl, ap, ◌∙◌, subst, ap₂, ⊎_elim, add-zero, mul_assoc, mul_comm, pow-suc, zero-mul, mul-one, arith}
+use Rattle.std.proofs.Common.{◌≡◌, ℕ, zero, suc, ◌+◌, ◌*◌, ◌^◌, ◌<◌, List, [], ◌∷◌, ◌++◌, replicate, sym, refl, ap, ◌∙◌, ap₂, ⊎_elim, add-zero, mul_assoc, mul_comm, pow-suc, zero-mul, mul-one, arith}
 use lib.Bits.{bit_xor, xor_block, xor_zero_r, xor_self}
 use Rattle.std.proofs.lemmas.Bool.{cases_lt}
 use Rattle.safety.specs.Remainder.{bits, bits_of, less, divide, remainder, value, Bits, product, Leaves, times_x32}

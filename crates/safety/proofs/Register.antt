@@ -1,6 +1,6 @@
 -- The shift register: one turn is linear, and a byte string fed through it gives the remainder of long division.
-use Rattle.std.proofs.Common.{◌≡◌, ℕ, zero, suc, ◌+◌, ◌-◌, ◌*◌, ◌/◌, ◌%◌, ◌^◌, ◌<◌, ◌≤◌, cond, ◌≢◌, ◌⊎◌, List, [], ◌∷◌, ◌++◌, get_or, replicate, sym, refl, ap, ◌∙◌, subst, ap₂, inl, inr, ⊎_elim, append_assoc, append-nil, lt_of_lt_of_le, add-zero, mod-lt, mod-eq_of_lt, mul_assoc, mul_comm, add-mul, add_comm, pow-suc, zero-add, zero-mul, mul-one, one-add, arith, pow_mono}
-use native.Mathlib.Nat.{mul-mod_left, mod-one}
+use Rattle.std.proofs.Common.{◌≡◌, ℕ, zero, suc, ◌+◌, ◌-◌, ◌*◌, ◌/◌, ◌%◌, ◌^◌, ◌<◌, ◌≤◌, ◌≢◌, ◌⊎◌, List, [], ◌∷◌, ◌++◌, replicate, sym, refl, ap, ◌∙◌, subst, ap₂, inl, inr, ⊎_elim, append_assoc, append-nil, add-zero, mod-eq_of_lt, mul_assoc, mul_comm, add-mul, pow-suc, zero-add, zero-mul, one-add, arith}
+use native.Mathlib.Nat.{mod-one}
 use lib.Bits.{bit_xor, xor_block, xor_assoc, xor_comm, xor_lt, xor_self, xor_zero_r, xor_shifted}
 use Rattle.std.proofs.lemmas.Nat.{mod-pow-add, shl_below, mod_below, pow_pos, pow-add}
 use Rattle.std.proofs.lemmas.Bool.{cond-true, cond-false, lt-ltb, le-ltb, cases_lt}

@@ -1,8 +1,7 @@
 -- A polynomial leaves one remainder.
-use Rattle.std.proofs.Common.{◌≡◌, ℕ, zero, suc, ◌+◌, ◌-◌, ◌*◌, ◌/◌, ◌%◌, ◌^◌, ◌<◌, ◌≤◌, ◌⊎◌, List, [], ◌∷◌, ◌++◌, length, replicate, sym, refl, ap, ◌∙◌, subst, ap₂, inl, inr, ⊎_elim, zero-add, zero-mul, arith, length-append}
-use lib.Bits.{bit_xor, xor_block, xor_zero_r, xor_self, xor_lt, xor_assoc, xor_comm}
+use Rattle.std.proofs.Common.{◌≡◌, ℕ, zero, suc, ◌+◌, ◌*◌, ◌/◌, ◌%◌, ◌^◌, ◌<◌, ◌≤◌, ◌⊎◌, List, [], ◌∷◌, ◌++◌, length, replicate, sym, refl, ap, ◌∙◌, subst, ap₂, inl, inr, ⊎_elim, zero-mul, arith, length-append}
+use lib.Bits.{bit_xor, xor_block, xor_zero_r, xor_self, xor_lt, xor_assoc}
 use lib.ListN.{length-replicate}
-use Rattle.std.proofs.lemmas.Bool.{cases_lt}
 use Rattle.safety.specs.Remainder.{Bits, product, Leaves}
 use Rattle.safety.proofs.Register.{medial, xor_double, scale, cases_two}
 use Rattle.safety.proofs.Long.{both_bits, zeros_bits}

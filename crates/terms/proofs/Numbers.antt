@@ -1,5 +1,5 @@
 -- Big endian numbers: written and read again is the same, and read and written again.
-use Rattle.std.proofs.Common.{◌≡◌, ℕ, zero, suc, ◌+◌, ◌-◌, ◌*◌, ◌/◌, ◌%◌, ◌^◌, ◌<◌, ◌≤◌, List, [], ◌∷◌, length, get_or, take, drop, sym, refl, ap, ◌∙◌, subst, ap₂, add-zero, add_assoc, mod-eq_of_lt, mul_assoc, mul_comm, add-mul, pow-suc, zero-add, mul-one, div-one, arith, drop-cons}
+use Rattle.std.proofs.Common.{◌≡◌, ℕ, zero, suc, ◌+◌, ◌*◌, ◌/◌, ◌%◌, ◌^◌, ◌<◌, ◌≤◌, List, [], ◌∷◌, length, get_or, take, drop, sym, refl, ap, ◌∙◌, subst, ap₂, add-zero, add_assoc, mod-eq_of_lt, mul_assoc, mul_comm, add-mul, pow-suc, mul-one, div-one, arith, drop-cons}
 use native.Mathlib.Nat.{mod-one}
 use lib.Arith.{mod-mul, digits_lt}
 use Rattle.std.proofs.lemmas.Nat.{div-mul-add, mod-mul-add}

@@ -1,14 +1,14 @@
 -- Laws of the values of a line, as the loops and calls use them.
-use Rattle.std.proofs.Common.{◌≡◌, ℕ, zero, suc, ◌+◌, ◌-◌, ◌*◌, ◌^◌, ◌<◌, ◌≤◌, Bool, true, false, cond, not, ◌&&◌, eqb, leb, ◌⊎◌, List, [], ◌∷◌, length, get_or, drop, pos, neg_ℤ, Ok, Err, sym, refl, ap, ◌∙◌, subst, inl, inr, ⊎_elim, le_trans, le_refl, lt_of_lt_of_le, pow-suc, add-one, arith}
+use Rattle.std.proofs.Common.{◌≡◌, ℕ, zero, suc, ◌+◌, ◌-◌, ◌*◌, ◌^◌, ◌<◌, ◌≤◌, true, ◌&&◌, leb, ◌⊎◌, List, [], ◌∷◌, length, get_or, drop, pos, neg_ℤ, Ok, Err, sym, ap, ◌∙◌, subst, inl, inr, ⊎_elim, le_trans, le_refl, lt_of_lt_of_le, pow-suc, add-one, arith}
 use native.Mathlib.Nat.{pow-le-pow_right}
 use Rattle.std.proofs.lemmas.List.{drop_more, drop_all}
-use Rattle.std.proofs.lemmas.Bool.{cond-true, cond-false, eq-eqb, and_parts, leb-true, cases_lt}
+use Rattle.std.proofs.lemmas.Bool.{cond-true, eq-eqb, and_parts, leb-true, cases_lt}
 use Rattle.std.proofs.lemmas.Bool.Decides.{nat_tests}
 use Rattle.terms.specs.Outcomes.{then}
 use Rattle.texts.specs.declared.fault.Fault.{Fault}
 use Rattle.texts.specs.declared.fault.Fault.TheVariants.{OutOfRange}
 use Rattle.texts.specs.declared.numbers.Range.{Range}
-use Rattle.texts.specs.Numbers.{digits, proper, is_number, value_of, read_number, read_digit, hex_on, read_hex, read_below}
+use Rattle.texts.specs.Numbers.{digits, is_number, value_of, read_number, read_digit, hex_on, read_hex, read_below}
 
 pub digits_on : (s : List ℕ) (i : ℕ) → i < length s → digits (drop i s) ≡ ((leb 48 (get_or s i 0) && leb (get_or s i 0) 57) && digits (drop (i + 1) s))
 digits_on s i h = ap digits (drop_more s i 0 h)

@@ -1,7 +1,7 @@
 -- Cutting undoes joining, and joining undoes cutting.
 use Rattle.std.proofs.Common.{◌≡◌, ℕ, zero, suc, ◌+◌, ◌≤◌, true, false, cond, eqb, ◌≢◌, List, [], ◌∷◌, ◌++◌, length, get_or, sym, refl, ap, ◌∙◌, add_assoc, zero-add, arith}
 use Rattle.std.proofs.lemmas.Bool.{cond-true, eq-eqb, eqb-true}
-use Rattle.texts.specs.Pieces.{before, after, count_of, past, value_at}
+use Rattle.texts.specs.Pieces.{before, after, count_of, value_at}
 
 module _ (c : ℕ) where
   pub count_join : (a b : List ℕ) → count_of c (a ++ b) ≡ count_of c a + count_of c b

@@ -1,5 +1,5 @@
 -- What the carrier answered and wrote are the named values.
-use Rattle.std.proofs.Common.{◌≡◌, ℕ, ◌-◌, List, take, replicate, Some, None, Ok, Err, refl, ap, ◌∙◌, arith, rules}
+use Rattle.std.proofs.Common.{◌≡◌, ℕ, ◌-◌, List, take, replicate, Some, None, Ok, refl, ap, ◌∙◌, arith, rules}
 use Rattle.carrier.specs.Rules.{FetchSome, FetchNone, greatest_length}
 use Rattle.pair.specs.Frames.{gives, taken_of, written}
 use Rattle.pair.proofs.fetch_frame.Goals as goal

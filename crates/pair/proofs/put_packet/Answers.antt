@@ -1,5 +1,5 @@
 -- The packet of the frame is what is put.
-use Rattle.std.proofs.Common.{◌≡◌, ℕ, ◌-◌, ◌≤◌, List, length, take, replicate, refl, subst, arith, rules}
+use Rattle.std.proofs.Common.{◌≡◌, ℕ, ◌-◌, ◌≤◌, List, take, replicate, refl, subst, arith, rules}
 use Rattle.packets.specs.Packets.{PacketValue, packet_bytes}
 use Rattle.carrier.specs.Rules.{PutRules, greatest_length}
 use Rattle.pair.proofs.Wraps.{within, wrapped_length, wrapped_part}

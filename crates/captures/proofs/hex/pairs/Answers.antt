@@ -1,6 +1,6 @@
-use Rattle.std.proofs.Common.{◌≡◌, ◌+◌, ◌*◌, ◌<◌, length, drop, Err, vec_items, sym, ap, ◌∙◌, arith}
+use Rattle.std.proofs.Common.{◌+◌, ◌*◌, drop, vec_items, sym, ap, ◌∙◌, arith}
 use Rattle.std.proofs.lemmas.Result.{err_from_is_err_and}
-use Rattle.captures.specs.Digits.{pairs_value, Decoded}
+use Rattle.captures.specs.Digits.{pairs_value}
 use Rattle.captures.proofs.Hexing.{joined, decode_on, decode_stop, decode_end, decode_odd}
 use Rattle.captures.proofs.hex.pairs.Goals as goal
 

@@ -1,8 +1,7 @@
-use Rattle.std.proofs.Common.{◌≡◌, ◌+◌, ◌-◌, ◌<◌, ◌≤◌, true, false, leb, [], ◌∷◌, ◌++◌, length, take, sym, refl, ap, ◌∙◌, ap₂, arith}
+use Rattle.std.proofs.Common.{◌≡◌, ◌+◌, ◌-◌, true, false, leb, [], ◌∷◌, ◌++◌, length, sym, ap, ◌∙◌, arith}
 use Rattle.std.proofs.lemmas.Bool.{le-leb, lt-leb, leb-true}
 use Rattle.terms.specs.Numbers.{bytes}
 use Rattle.terms.specs.Buffers.{overlay, put_after}
-use Rattle.terms.specs.Roles.{flag}
 use Rattle.codec.specs.Telegrams.{telegram_value, telegram_bytes, content_bytes}
 use Rattle.safety.specs.Words.{code_of}
 use Rattle.codec.specs.Sealing.{guarded, sealed}

@@ -1,4 +1,4 @@
-use Rattle.std.proofs.Common.{◌≡◌, Some, Ok, sym, ap, ◌∙◌, subst, ap₂}
+use Rattle.std.proofs.Common.{Some, Ok, sym, ap, ◌∙◌, subst, ap₂}
 use Rattle.safety.specs.Words.{word_borne}
 use Rattle.codec.specs.Frames.{frame_value, dt}
 use Rattle.codec.specs.FrameLaws.{Writing}

@@ -1,4 +1,4 @@
-use Rattle.std.proofs.Common.{◌≡◌, true, eqb, length, drop, sym, ap, ◌∙◌, arith, length-drop, rules, eq-eqb}
+use Rattle.std.proofs.Common.{◌≡◌, true, eqb, length, drop, ap, ◌∙◌, arith, length-drop, rules, eq-eqb}
 use Rattle.std.proofs.lemmas.List.{take_all}
 use Rattle.terms.specs.Numbers.{number}
 use Rattle.terms.proofs.Numbers.{spell, spell_take}

@@ -2,7 +2,7 @@
 use Rattle.std.proofs.Common.{◌≡◌, ◌+◌, ◌-◌, ◌*◌, ◌≤◌, length, get_or, take, drop, Ok, Err, sym, ap, ◌∙◌, arith, rules}
 use Rattle.std.proofs.lemmas.List.{take_rest}
 use Rattle.std.proofs.lemmas.Result.{err_from_is_err_and}
-use Rattle.packets.specs.Packets.{packet_values, coded_type, frame_in, type_code, type_of}
+use Rattle.packets.specs.Packets.{packet_values, coded_type, frame_in, type_code}
 use Rattle.packets.proofs.Packets.{read_refused, read_unsuited, read_good}
 use Rattle.packets.proofs.packet.parse.Goals as goal
 use Rattle.packets.proofs.packet.parse.Goals.{After-frame_in}

@@ -1,5 +1,5 @@
 -- Both carriers are put a packet of the frame.
-use Rattle.std.proofs.Common.{◌≡◌, ℕ, ◌+◌, ◌^◌, ◌<◌, ◌≤◌, List, length, replicate, Ok, Result, sym, refl, ap, subst, arith}
+use Rattle.std.proofs.Common.{◌≡◌, ℕ, ◌+◌, ◌^◌, ◌<◌, ◌≤◌, List, length, replicate, Ok, Result, sym, refl, subst, arith}
 use Rattle.terms.specs.declared.refusal.Refusal.{Refusal}
 use Rattle.packets.specs.declared.packet.Cable.{Cable}
 use Rattle.packets.specs.declared.packet.Cable.TheVariants.{Normal, Redundant}

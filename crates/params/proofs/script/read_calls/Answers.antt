@@ -1,9 +1,9 @@
-use Rattle.std.proofs.Common.{◌≡◌, eqb, ◌≢◌, [], ◌∷◌, ◌++◌, map, length, Ok, Err, vec_items, sym, ap, ◌∙◌, arith, rules}
+use Rattle.std.proofs.Common.{◌≡◌, [], ◌∷◌, ◌++◌, map, vec_items, sym, ap, ◌∙◌, arith}
 use Rattle.std.proofs.lemmas.Result.{err_from_is_err_and}
 use Rattle.std.proofs.lemmas.List.{map_push}
 use Rattle.std.proofs.lemmas.Bool.{eqb-true, eqb-false}
-use Rattle.params.specs.Calls.{all_said, said, Answers}
-use Rattle.params.proofs.ScriptLaws.{reading_done, reading_over, reading_more, reading_stops, first_good}
+use Rattle.params.specs.Calls.{all_said, said}
+use Rattle.params.proofs.ScriptLaws.{reading_done, reading_over, reading_more, reading_stops}
 use Rattle.params.proofs.script.read_calls.Goals as goal
 
 pub returns-then-is_empty : goal.returns-then-is_empty

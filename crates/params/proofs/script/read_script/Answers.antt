@@ -1,4 +1,4 @@
-use Rattle.std.proofs.Common.{◌≡◌, true, is_ok, ap, ◌∙◌, rules}
+use Rattle.std.proofs.Common.{◌≡◌, true, is_ok, rules}
 use Rattle.params.specs.Calls.{all_said, Answers}
 use Rattle.params.specs.Scripts.{read_script, first_call}
 use Rattle.params.proofs.ScriptFaults.{script_first_fault}

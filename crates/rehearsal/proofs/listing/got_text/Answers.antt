@@ -1,7 +1,7 @@
-use Rattle.std.proofs.Common.{◌≡◌, [], ◌∷◌, ◌++◌, map, length, get_or, take, sym, ap, ◌∙◌, arith, rules}
+use Rattle.std.proofs.Common.{[], ◌∷◌, ◌++◌, map, get_or, take, sym, ap, ◌∙◌, rules}
 use Rattle.std.proofs.lemmas.List.{take_more, take_all, map_push}
 use Rattle.std.proofs.lemmas.Slice.{pushed}
-use Rattle.rehearsal.specs.Listing.{shown_byte, got_text}
+use Rattle.rehearsal.specs.Listing.{shown_byte}
 use Rattle.rehearsal.proofs.Lists.{got_some}
 use Rattle.rehearsal.proofs.listing.got_text.Goals as goal
 

@@ -1,4 +1,4 @@
-use Rattle.std.proofs.Common.{◌≡◌, ◌++◌, take, string_bytes}
+use Rattle.std.proofs.Common.{◌≡◌, take, string_bytes}
 use Rattle.rehearsal.specs.Listing.{listing_text}
 use Rattle.rehearsal.proofs.listing.listing.Given as goal
 

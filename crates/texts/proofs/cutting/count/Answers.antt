@@ -1,4 +1,4 @@
-use Rattle.std.proofs.Common.{length, get_or, ap, arith, rules}
+use Rattle.std.proofs.Common.{ap, arith}
 use Rattle.std.proofs.lemmas.List.{drop_all}
 use Rattle.std.proofs.lemmas.Bool.Decides.{nat_tests}
 use Rattle.texts.specs.Pieces.{count_of}

@@ -1,4 +1,4 @@
-use Rattle.std.proofs.Common.{◌≡◌, eqb, length, ap, ◌∙◌}
+use Rattle.std.proofs.Common.{eqb, length, ap, ◌∙◌}
 use Rattle.texts.proofs.Cuts.{lacks_law}
 use Rattle.texts.proofs.cutting.lacks.Goals as goal
 

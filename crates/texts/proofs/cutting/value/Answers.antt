@@ -1,4 +1,4 @@
-use Rattle.std.proofs.Common.{◌≡◌, ◌+◌, ◌-◌, sym, ap, ◌∙◌, arith}
+use Rattle.std.proofs.Common.{◌+◌, ◌-◌, sym, ap, ◌∙◌, arith}
 use Rattle.texts.specs.Pieces.{past}
 use Rattle.texts.proofs.Cuts.{past_on}
 use Rattle.texts.proofs.cutting.value.Goals as goal

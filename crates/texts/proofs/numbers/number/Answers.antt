@@ -1,6 +1,6 @@
-use Rattle.std.proofs.Common.{◌≡◌, ◌+◌, ◌*◌, true, ◌⊎◌, length, get_or, sym, ap, ◌∙◌, subst, inl, inr, ⊎_elim, arith}
+use Rattle.std.proofs.Common.{◌≡◌, ◌+◌, ◌*◌, sym, ap, ◌∙◌, subst, inl, inr, ⊎_elim, arith}
 use Rattle.std.proofs.lemmas.Bool.{and_parts}
-use Rattle.texts.specs.Numbers.{digits, is_number, value_of}
+use Rattle.texts.specs.Numbers.{value_of}
 use Rattle.texts.proofs.Digits.{digit_at, Kept, kept_on, kept_over, kept_all, out_of, inside}
 use Rattle.texts.proofs.numbers.number.Goals as goal
 use Rattle.texts.proofs.numbers.number.Goals.{then-n-lt4294967296, else-n-lt4294967296, then-n-from-via-then-n-from, then-n-from-via-else-n-from+then-from-n}

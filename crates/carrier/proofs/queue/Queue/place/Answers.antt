@@ -1,4 +1,4 @@
-use Rattle.std.proofs.Common.{◌≡◌, [], length, get_or, take, sym, refl, ◌∙◌, arith}
+use Rattle.std.proofs.Common.{◌≡◌, [], length, get_or, take, arith}
 use Rattle.carrier.specs.Held.{held}
 use Rattle.carrier.specs.Packing.{bulk}
 use Rattle.carrier.proofs.Spots.{spot}

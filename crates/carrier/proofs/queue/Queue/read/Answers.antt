@@ -1,4 +1,4 @@
-use Rattle.std.proofs.Common.{◌≡◌, ◌+◌, ◌-◌, [], length, get_or, arith}
+use Rattle.std.proofs.Common.{◌≡◌, ◌+◌, ◌-◌, [], get_or, arith}
 use Rattle.carrier.specs.Held.{held}
 use Rattle.carrier.proofs.Spots.{spot}
 use Rattle.carrier.proofs.queue.Queue.read.Goals as goal

@@ -1,5 +1,5 @@
 -- The strings behind it move up over the one that is taken out.
-use Rattle.std.proofs.Common.{◌≡◌, ℕ, ◌+◌, ◌-◌, vec_items, sym, ◌∙◌, subst, arith}
+use Rattle.std.proofs.Common.{◌≡◌, ℕ, ◌+◌, ◌-◌, vec_items, subst, arith}
 use Rattle.std.specs.List.{remove}
 use Rattle.carrier.specs.Held.{held}
 use Rattle.carrier.proofs.Packing.{Holding}

@@ -1,6 +1,5 @@
 -- What is handed out is within the rules of a carrier.
-use Rattle.std.proofs.Common.{◌≡◌, ℕ, List, Some, Ok, Option, sym, subst, arith, rules}
-use Rattle.carrier.specs.declared.store.Store.{Store}
+use Rattle.std.proofs.Common.{◌≡◌, ℕ, List, Some, Ok, Option, subst, arith}
 use Rattle.carrier.specs.Wires.{strings_at, place_of, WireFetch}
 use Rattle.carrier.proofs.Kept.{fetch_rules, place_within, handed}
 use Rattle.carrier.proofs.store.Store.fetch.Goals as goal

@@ -1,4 +1,4 @@
-use Rattle.std.proofs.Common.{◌≡◌, [], ◌∷◌, ◌++◌, sym, ap, ◌∙◌, subst, rules}
+use Rattle.std.proofs.Common.{[], ◌∷◌, ◌++◌, sym, ap, ◌∙◌, rules}
 use Rattle.terms.specs.Buffers.{put_after}
 use Rattle.codec.specs.Frames.{bytes_of, frame_value, fixed_bytes, ignored_text}
 use Rattle.terms.proofs.Numbers.{big_endian}

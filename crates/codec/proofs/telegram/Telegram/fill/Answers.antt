@@ -1,6 +1,6 @@
-use Rattle.std.proofs.Common.{◌++◌, sym, ap, ◌∙◌, rules}
+use Rattle.std.proofs.Common.{◌++◌, ap, ◌∙◌, rules}
 use Rattle.terms.specs.Buffers.{put_after}
-use Rattle.codec.specs.Telegrams.{telegram_bytes, telegram_value, content_bytes, header}
+use Rattle.codec.specs.Telegrams.{telegram_bytes, telegram_value, content_bytes}
 use Rattle.codec.proofs.telegram.Telegram.fill.Goals as goal
 
 pub returns : goal.returns

@@ -1,4 +1,4 @@
-use Rattle.std.proofs.Common.{◌≡◌, ℕ, ◌-◌, min, ◌&&◌, leb, List, length, take, Some, None, Ok, Option, sym, refl, ap, ◌∙◌, subst, ap₂, arith, length-take, rules}
+use Rattle.std.proofs.Common.{◌≡◌, ℕ, ◌-◌, ◌&&◌, leb, List, length, take, Some, None, Option, sym, ap, ◌∙◌, subst, ap₂, arith, length-take, rules}
 use native.Mathlib.Nat.{sub-zero}
 use Rattle.terms.specs.declared.role.Role.{Role}
 use Rattle.terms.specs.Numbers.{Bytes}

@@ -1,7 +1,6 @@
 use Rattle.std.proofs.Common.{◌≡◌, ℕ, ◌≤◌, length, Ok, Err, Result, sym, ap, ◌∙◌, subst, arith}
 use Rattle.terms.specs.declared.refusal.Refusal.{Refusal}
 use Rattle.terms.specs.Buffers.{overlay}
-use Rattle.terms.specs.Roles.{far}
 use Rattle.codec.specs.Sealing.{sealed}
 use Rattle.codec.specs.Telegrams.{TelegramValue, telegram_bytes, content_value}
 use Rattle.ends.specs.Puts.{longest_frame}

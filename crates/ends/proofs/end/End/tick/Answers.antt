@@ -1,10 +1,10 @@
-use Rattle.std.proofs.Common.{◌≡◌, ℕ, cond, leb, List, length, None, Option, sym, ap, ◌∙◌, subst, ap₂}
+use Rattle.std.proofs.Common.{◌≡◌, ℕ, leb, List, length, None, Option, sym, ap, ◌∙◌, subst, ap₂}
 use Rattle.terms.specs.declared.role.Role.{Role}
 use Rattle.ends.specs.Ends.{end_value}
 use Rattle.ends.specs.Ways.{tick_way}
-use Rattle.ends.specs.Effects.{after_tick, tick_put}
-use Rattle.ends.specs.Puts.{longest_frame, put_length, front}
-use Rattle.ends.specs.Calls.{Puts, call_refusal, tick_refusal, message_refusal, said, answering}
+use Rattle.ends.specs.Effects.{tick_put}
+use Rattle.ends.specs.Puts.{longest_frame, front}
+use Rattle.ends.specs.Calls.{Puts, call_refusal, tick_refusal, message_refusal, said}
 use Rattle.states.specs.States.{status_of}
 use Rattle.ends.specs.Steps.{PutStep, TickStepped}
 use Rattle.ends.proofs.Calling.{ticks, laid_put}

@@ -1,10 +1,9 @@
-use Rattle.std.proofs.Common.{◌≡◌, ◌+◌, [], ◌∷◌, ◌++◌, map, length, take, vec_items, sym, refl, ap, ◌∙◌, subst, rules}
+use Rattle.std.proofs.Common.{◌+◌, [], ◌∷◌, ◌++◌, map, take, vec_items, sym, refl, ap, ◌∙◌, subst, rules}
 use Rattle.std.proofs.lemmas.List.{take_more, take_all, map_push}
 use Rattle.std.proofs.lemmas.Slice.{pushed}
 use Rattle.std.proofs.lemmas.Result.{err_from_is_err_and}
 use Rattle.link.specs.declared.runs.Line.{Line}
-use Rattle.link.specs.Runs.{at_place}
-use Rattle.link.specs.Seats.{link_value, Played, Plays}
+use Rattle.link.specs.Seats.{link_value, Played}
 use Rattle.link.specs.Tells.{told_by}
 use Rattle.link.proofs.Playing.{played_more}
 use Rattle.link.proofs.runs.Seats.play.Goals as goal

@@ -1,5 +1,5 @@
 -- The part behind the bytes that a pattern names is what `drop` leaves.
-use Rattle.std.proofs.Common.{◌≡◌, length, drop, Ok, sym, ap, ◌∙◌, rules}
+use Rattle.std.proofs.Common.{◌≡◌, drop, Ok, sym, ap, ◌∙◌, rules}
 use Rattle.std.proofs.lemmas.List.{take_rest}
 use Rattle.packets.specs.declared.packet.PacketType.TheVariants.{Au1, Au2}
 use Rattle.packets.specs.Packets.{frame_in}
