@@ -7,8 +7,7 @@ use native.Mathlib.Omega.{arith}
 use Rattle.terms.specs.declared.role.Role.{Role}
 use Rattle.terms.specs.declared.role.Role.TheVariants.{Initiator, Responder}
 use Rattle.terms.specs.Roles.{far}
-use lib.Dec.{eqb}
-use Rattle.model.specs.Model.{Shape, Limits, Kind, start, am, req, ack, Tel, Deed, idle, drifts, leaves, begins, waits, opens, replies, firsts, first_answers, plain, asks, takes, answers, renews, parts, after, counts, Can}
+use Rattle.model.specs.Model.{Shape, Limits, Tel, req, ack, Deed, idle, drifts, leaves, begins, waits, opens, replies, firsts, first_answers, plain, asks, takes, answers, renews, parts, after, counts, Can}
 use Rattle.model.proofs.Ends.{code, lead, lead_one, Own}
 
 -- of the telegrams of one kind that an end put: the number of the latest, of the one before, and a time of the latest; 0 where there is none
@@ -25,33 +24,40 @@ abbrev pub note : Bool → ℕ → ℕ → Marks → Marks
 note true n x g = record { now = n; before = g.now; time = x }
 note false n x g = g
 
--- the kinds by numbers, and the kind of what a deed puts; 4 where it puts nothing
-abbrev pub kind_no : Kind → ℕ
-kind_no start = 0
-kind_no am = 1
-kind_no req = 2
-kind_no ack = 3
+-- deeds that put AM+REQ; AM+ACK
+abbrev pub puts_req : Deed → Bool
+puts_req idle = false
+puts_req (drifts n) = false
+puts_req (leaves n) = false
+puts_req begins = false
+puts_req waits = false
+puts_req (opens t) = false
+puts_req (replies t) = false
+puts_req (firsts t) = false
+puts_req (first_answers t) = false
+puts_req plain = false
+puts_req asks = true
+puts_req (takes t) = false
+puts_req (answers t) = false
+puts_req (renews t) = false
+puts_req (parts t) = false
 
-abbrev pub put_no : Deed → ℕ
-put_no idle = 4
-put_no (drifts n) = 4
-put_no (leaves n) = 4
-put_no begins = 0
-put_no waits = 4
-put_no (opens t) = 4
-put_no (replies t) = 0
-put_no (firsts t) = 4
-put_no (first_answers t) = 3
-put_no plain = 1
-put_no asks = 2
-put_no (takes t) = 4
-put_no (answers t) = 3
-put_no (renews t) = 4
-put_no (parts t) = 4
-
--- deeds that put a telegram of a kind
-abbrev pub puts : Kind → Deed → Bool
-puts k d = eqb (put_no d) (kind_no k)
+abbrev pub puts_ack : Deed → Bool
+puts_ack idle = false
+puts_ack (drifts n) = false
+puts_ack (leaves n) = false
+puts_ack begins = false
+puts_ack waits = false
+puts_ack (opens t) = false
+puts_ack (replies t) = false
+puts_ack (firsts t) = false
+puts_ack (first_answers t) = true
+puts_ack plain = false
+puts_ack asks = false
+puts_ack (takes t) = false
+puts_ack (answers t) = true
+puts_ack (renews t) = false
+puts_ack (parts t) = false
 
 -- while the receiver is up: an AM+ACK that it may yet accept is due and was put after it asked, at most one is on its way, and none while its AM+REQ is
 pub record Live (l : Limits) (e f : Shape) (x : ℕ) (q a : Marks) : Type 0 where
@@ -89,7 +95,7 @@ pub leads : (s : Role) → lead s + lead (far s) ≡ 1
 leads Initiator = omega arith
 leads Responder = omega arith
 
-pub marked_here : (s : Role) (l : Limits) (e f : Shape) (x : ℕ) (q a : Marks) (d : Deed) → Can s l (OfOther f a) e d → Own s l e → Marked e q a → Marked (after e d) (note (puts req d) e.next x q) a
+pub marked_here : (s : Role) (l : Limits) (e f : Shape) (x : ℕ) (q a : Marks) (d : Deed) → Can s l (OfOther f a) e d → Own s l e → Marked e q a → Marked (after e d) (note (puts_req d) e.next x q) a
 marked_here s l e f x q a idle c o r = omega arith
 marked_here s l e f x q a (drifts n) c o r = omega (arith, ap code c)
 marked_here s l e f x q a (leaves n) c o r = omega arith
@@ -113,7 +119,7 @@ no_ack l e f x q a v c = let n : ¬ (e.floor ≤ a.now) = λ h. omega (arith, v.
 no_req : (l : Limits) (e f : Shape) (x : ℕ) (q a : Marks) → Live l e f x q a → e.count < l.ask → q.now < f.floor
 no_req l e f x q a v c = let n : ¬ (f.floor ≤ q.now) = λ h. omega (arith, v.asked h) in omega arith
 
-pub live_here : (s : Role) (l : Limits) (e f : Shape) (x : ℕ) (q a : Marks) (d : Deed) → Can s l (OfOther f a) e d → Ordered q → Ordered a → Marked e q a → 1 ≤ f.floor → (code e.mode ≡ 3 → Live l e f x q a) → code (after e d).mode ≡ 3 → Live l (after e d) f (x + counts d) (note (puts req d) e.next x q) a
+pub live_here : (s : Role) (l : Limits) (e f : Shape) (x : ℕ) (q a : Marks) (d : Deed) → Can s l (OfOther f a) e d → Ordered q → Ordered a → Marked e q a → 1 ≤ f.floor → (code e.mode ≡ 3 → Live l e f x q a) → code (after e d).mode ≡ 3 → Live l (after e d) f (x + counts d) (note (puts_req d) e.next x q) a
 live_here s l e f x q a idle c b b' r o v u = let w = v u in omega arith
 live_here s l e f x q a (drifts n) c b b' r o v u = absurd (omega (arith, ap code c))
 live_here s l e f x q a (leaves n) c b b' r o v u = absurd (omega arith)
@@ -131,7 +137,7 @@ live_here s l e f x q a (renews t) c b b' r o v u = let w = v u in omega (arith,
 live_here s l e f x q a (parts t) c b b' r o v u = absurd (omega (arith, ap code c.0))
 
 -- an AM+REQ that the other end answers has a number above 0, since it has accepted one before
-pub marked_there : (s : Role) (k : Limits) (e f : Shape) (x : ℕ) (q a : Marks) (d : Deed) → Can s k (OfMe e q) f d → Own s k f → Ordered q → Marked e q a → Marked e q (note (puts ack d) f.next x a)
+pub marked_there : (s : Role) (k : Limits) (e f : Shape) (x : ℕ) (q a : Marks) (d : Deed) → Can s k (OfMe e q) f d → Own s k f → Ordered q → Marked e q a → Marked e q (note (puts_ack d) f.next x a)
 marked_there s k e f x q a idle c o b r = omega arith
 marked_there s k e f x q a (drifts n) c o b r = omega arith
 marked_there s k e f x q a (leaves n) c o b r = omega arith
@@ -148,7 +154,7 @@ marked_there s k e f x q a (answers t) c o b r = omega (arith, ap code c.0, lead
 marked_there s k e f x q a (renews t) c o b r = omega arith
 marked_there s k e f x q a (parts t) c o b r = omega arith
 
-pub live_there : (s : Role) (l k : Limits) (e f : Shape) (x : ℕ) (q a : Marks) (d : Deed) → Can s k (OfMe e q) f d → Own s k f → Live l e f x q a → Live l e (after f d) x q (note (puts ack d) f.next x a)
+pub live_there : (s : Role) (l k : Limits) (e f : Shape) (x : ℕ) (q a : Marks) (d : Deed) → Can s k (OfMe e q) f d → Own s k f → Live l e f x q a → Live l e (after f d) x q (note (puts_ack d) f.next x a)
 live_there s l k e f x q a idle c o v = omega arith
 live_there s l k e f x q a (drifts n) c o v = omega arith
 live_there s l k e f x q a (leaves n) c o v = omega arith

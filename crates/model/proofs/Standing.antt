@@ -4,9 +4,9 @@ use Prim.Native.Nat.{ℕ, ◌+◌, ◌≤◌, ◌<◌}
 use native.Mathlib.Omega.{arith}
 use Rattle.terms.specs.declared.role.Role.{Role}
 use Rattle.terms.specs.Roles.{far}
-use Rattle.model.specs.Model.{Shape, Limits, req, ack, Deed, fresh, after, counts, Can}
+use Rattle.model.specs.Model.{Shape, Limits, Deed, fresh, after, counts, Can}
 use Rattle.model.proofs.Ends.{code, own_fresh, own_after, next_after, floor_after, can_by}
-use Rattle.model.proofs.Round.{Marks, unmarked, note, puts, Ordered, OfOther, OfMe, Live, Marked, Both, leads, marked_here, marked_there, live_here, live_there}
+use Rattle.model.proofs.Round.{Marks, unmarked, note, puts_req, puts_ack, Ordered, OfOther, OfMe, Live, Marked, Both, leads, marked_here, marked_there, live_here, live_there}
 
 pub record Stands (s : Role) (l k : Limits) (e f : Shape) (x : ℕ) (q a : Marks) : Type 0 where
   pub ends : Both s l k e f
@@ -24,7 +24,7 @@ stands_new s l k i j = record {
 met : (s : Role) (l k : Limits) (e f : Shape) → Both s l k e f → code e.mode ≡ 3 → 1 ≤ f.floor
 met s l k e f b u = omega (arith, leads s, b.me.up_floor u)
 
-pub stands_here : (s : Role) (l k : Limits) (e f : Shape) (x : ℕ) (q a : Marks) (d : Deed) → Can s l (OfOther f a) e d → Ordered q → Ordered a → Stands s l k e f x q a → Stands s l k (after e d) f (x + counts d) (note (puts req d) e.next x q) a
+pub stands_here : (s : Role) (l k : Limits) (e f : Shape) (x : ℕ) (q a : Marks) (d : Deed) → Can s l (OfOther f a) e d → Ordered q → Ordered a → Stands s l k e f x q a → Stands s l k (after e d) f (x + counts d) (note (puts_req d) e.next x q) a
 stands_here s l k e f x q a d c o o' b =
     let n : Both s l k (after e d) f = record {
       me = own_after s l (OfOther f a) e d c b.ends.me;
@@ -38,7 +38,7 @@ stands_here s l k e f x q a d c o o' b =
       live = λ u. live_here s l e f x q a d c o o' b.marked (met s l k (after e d) f n u) b.live u;
     }
 
-pub stands_there : (s : Role) (l k : Limits) (e f : Shape) (x : ℕ) (q a : Marks) (d : Deed) → Can (far s) k (OfMe e q) f d → Ordered q → Stands s l k e f x q a → Stands s l k e (after f d) x q (note (puts ack d) f.next x a)
+pub stands_there : (s : Role) (l k : Limits) (e f : Shape) (x : ℕ) (q a : Marks) (d : Deed) → Can (far s) k (OfMe e q) f d → Ordered q → Stands s l k e f x q a → Stands s l k e (after f d) x q (note (puts_ack d) f.next x a)
 stands_there s l k e f x q a d c o b = record {
   ends = record {
     me = b.ends.me;
