@@ -4,22 +4,22 @@
 # `make compare` and `make speed` hold it against another implementation.
 .PHONY: rehearse inspect test compare speed
 
+# A program is built by running it: here without its files, so it ends at once.
 rehearse:
-	@rt check rehearse
-	@cd examples/first && $(CURDIR)/target/bin/rehearse
+	@cd crates/rehearse && rt check && { rt run >/dev/null 2>&1 || true; }
+	@cd examples/first && $(CURDIR)/crates/rehearse/out/rehearse
 
 inspect:
-	@rt check inspect
-	@target/bin/inspect < crates/inspect/stdin
+	@cd crates/inspect && rt run < stdin
 
 test:
 	@.ci/run
 
 # The other implementation against this one, and how fast both are (`bench/README.md`); wants `cargo`.
 compare:
-	@rt staticlib capi
+	@cd crates/capi && rt lib
 	@cd bench && cargo run --release --quiet --bin compare
 
 speed:
-	@rt staticlib capi
+	@cd crates/capi && rt lib
 	@cd bench && cargo run --release --quiet --bin speed

@@ -4,8 +4,8 @@ use std::env;
 use std::path::{Path, PathBuf};
 use std::process::Command;
 
-const ARCHIVE: &str = "../target/staticlib/libcapi.a";
-const GLUE: &str = "lib/librattle_c.a";
+const ARCHIVE: &str = "../crates/capi/out/libcapi.a";
+const GLUE: &str = "c/liblibc_c.a";
 
 fn main() {
     if let Err(message) = link() {
@@ -17,7 +17,7 @@ fn main() {
 fn link() -> Result<(), String> {
     println!("cargo:rerun-if-changed=build.rs");
     let archive = from_environment("FALLDATE_ARCHIVE").unwrap_or_else(|| ARCHIVE.into());
-    link_archive(&archive, "run `rt staticlib capi` first")?;
+    link_archive(&archive, "run `rt lib` in crates/capi first")?;
     let glue = kit()?.join(GLUE);
     link_archive(&glue, "set KIT to the folder of the Rattle kit")
 }
