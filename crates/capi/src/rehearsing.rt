@@ -6,7 +6,7 @@ ghost use Rattle.capi.specs.Rehearsing.{laid_answer, Prints, Rehearsing};
 use crate::NO_MEMORY;
 use rehearsal::faults::FaultLine;
 use rehearsal::rehearsing::{RehearsalError, rehearse};
-use std::alloc::{AllocError, Global};
+use std::alloc::Global;
 
 // Below zero, the number of the refusal of a buffer that is too short.
 const TOO_SHORT: i64 = -7;
@@ -25,13 +25,13 @@ fn lay(text: &[u8], out: &mut [u8]) -> i64
 }
 
 // What a rehearsal prints: its listing, or the line of the fault.
-fn printed(heap: Global, sheet: &[u8], script: &[u8]) -> Result<String, AllocError>
+fn printed(heap: Global, sheet: &[u8], script: &[u8]) -> Result<String, RehearsalError>
     ensures { IfOk result (λ t. Prints sheet.now script.now (string_bytes t)) }
 {
     match rehearse(heap, sheet, script) {
         Ok(listing) => Ok(listing),
-        Err(RehearsalError::Fault(fault)) => format!(in heap; "{}", FaultLine(fault)),
-        Err(RehearsalError::NoMemory) => Err(AllocError),
+        Err(RehearsalError::Fault(fault)) => Ok(format!(in heap; "{}", FaultLine(fault))?),
+        Err(RehearsalError::NoMemory) => Err(RehearsalError::NoMemory),
     }
 }
 
