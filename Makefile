@@ -6,7 +6,7 @@
 
 # A program is built by running it: here without its files, so it ends at once.
 rehearse:
-	@cd crates/rehearse && rt check && { rt run >/dev/null 2>&1 || true; }
+	@cd crates/rehearse && rm -f out/rehearse && rt check && { rt run >/dev/null 2>&1 || true; }
 	@cd examples/first && $(CURDIR)/crates/rehearse/out/rehearse
 
 inspect:

@@ -6,6 +6,7 @@ use anyhow::anyhow;
 use rehearsal::faults::FaultLine;
 use rehearsal::rehearsing::{RehearsalError, rehearse};
 use std::fs;
+use std::process::ExitCode;
 
 fn read(rt: &HostRuntime, file: &str) -> anyhow::Result<Vec<u8>> {
     match fs::read(rt, file) {
@@ -29,10 +30,10 @@ fn run(rt: &HostRuntime) -> anyhow::Result<bool> {
     Ok(true)
 }
 
-fn main(rt: HostRuntime) -> anyhow::Result<()> {
+fn main(rt: HostRuntime) -> anyhow::Result<ExitCode> {
     if run(&rt)? {
-        Ok(())
+        Ok(ExitCode::SUCCESS)
     } else {
-        Err(anyhow!("a faulty file"))
+        Ok(ExitCode::FAILURE)
     }
 }
