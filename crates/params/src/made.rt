@@ -77,6 +77,7 @@ impl Params {
     }
 
     // The values of the set.
+    #[tactic(auto, using(crate::proofs::Ranges::params_inside))]
     pub fn values(&self) -> Values
         ensures value { result ≡ self.now.values }
         ensures inside { InRange result }

@@ -1,6 +1,6 @@
 -- Laws of cutting a text, as the loops use them.
 use Rattle.std.proofs.Common.{◌≡◌, ℕ, suc, ◌+◌, ◌-◌, ◌<◌, ◌≤◌, true, false, cond, eqb, ◌≢◌, List, [], ◌∷◌, length, get_or, take, drop, sym, refl, ap, ◌∙◌, ⊎_elim, arith}
-use Rattle.std.proofs.lemmas.List.{drop_more}
+use Rattle.std.proofs.lemmas.List.{drop_more, drop_all, take_rest}
 use Rattle.std.proofs.lemmas.Bool.{cond-true, cond-false, eq-eqb, ne_eqb, cases_eq}
 use Rattle.texts.specs.Pieces.{before, after, count_of, past}
 
@@ -28,6 +28,15 @@ module _ (c : ℕ) where
   after_drop (b ∷ s) =
       elim (eqb b c) as (λ t. drop (suc (length (cond t [] (b ∷ before c s)))) (b ∷ s) ≡ cond t s (after c s))
       [ true ↦ refl | false ↦ after_drop s ]
+
+  -- what stands behind the first c, as the code cuts it
+  pub after_slice : (s : List ℕ) (i : ℕ) → i ≡ length (before c s) → take (length s - (i + 1)) (drop (i + 1) s) ≡ after c s
+  after_slice s i e =
+      let j : i + 1 ≡ suc (length (before c s)) = omega (arith, e) in
+      take_rest s (i + 1) ∙ ap (λ n. drop n s) j ∙ after_drop s
+
+  pub after_none : (s : List ℕ) → length s ≤ length (before c s) → [] ≡ after c s
+  after_none s h = sym (drop_all (suc (length (before c s))) s (omega (arith, h))) ∙ after_drop s
 
   absent : (s : List ℕ) → count_of c s ≡ 0 → length (before c s) ≡ length s
   absent [] = λ h. refl

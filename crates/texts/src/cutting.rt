@@ -20,6 +20,7 @@ fn before(s: &[u8], c: u8) -> &[u8]
     &s[0..find(s, c)]
 }
 
+#[tactic(auto, using(crate::proofs::Cuts::after_slice, crate::proofs::Cuts::after_none))]
 fn after(s: &[u8], c: u8) -> &[u8]
     ensures { result.now ≡ after c s.now }
 {
