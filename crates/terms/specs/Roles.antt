@@ -1,5 +1,5 @@
 -- The two parties of a connection.
-use Rattle.std.specs.Prelude.{ℕ}
+use Rattle.std.specs.Prelude.{ℕ, List, codes}
 use Rattle.terms.specs.declared.role.Role.{Role}
 use Rattle.terms.specs.declared.role.Role.TheVariants.{Initiator, Responder}
 
@@ -12,3 +12,8 @@ far Responder = Initiator
 abbrev pub flag : Role → ℕ
 flag Initiator = 1
 flag Responder = 0
+
+-- the letter by which scripts and listings name an end
+abbrev pub letter : Role → List ℕ
+letter Initiator = codes "I"
+letter Responder = codes "R"

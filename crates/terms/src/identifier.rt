@@ -8,11 +8,11 @@ pub struct Identifier {
     pub second: u32,
 }
 
-impl Identifier {
-    // Both halves as one number, the first the higher.
-    pub fn number(self) -> u64
-        ensures { result ≡ identifier_number self }
-    {
-        (u64::from(self.first) << 32) + u64::from(self.second)
+// Both halves as one number, the first the higher.
+impl From<Identifier> for u64 {
+    ghost from_gives = { λ identifier n. n ≡ identifier_number identifier };
+
+    fn from(identifier: Identifier) -> u64 {
+        (u64::from(identifier.first) << 32) + u64::from(identifier.second)
     }
 }

@@ -28,12 +28,12 @@ pub enum Refusal {
     FrameFixed,
 }
 
-impl Refusal {
-    // The number under which the refusal is reported.
-    pub fn number(self) -> u8
-        ensures { result ≡ refusal_number self }
-    {
-        match self {
+// The number under which a refusal is reported.
+impl From<Refusal> for u8 {
+    ghost from_gives = { λ refusal n. n ≡ refusal_number refusal };
+
+    fn from(refusal: Refusal) -> u8 {
+        match refusal {
             Refusal::CarrierTooNarrow => 6,
             Refusal::BufferTooShort => 7,
             Refusal::EndIsOut => 8,
