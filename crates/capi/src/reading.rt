@@ -22,7 +22,7 @@ pub extern "C" fn falldate_safety_code(word: u64, bytes: &[u8]) -> u64
 fn refused(refusal: Refusal) -> i32
     ensures { result ≡ neg_ℤ (pos (refusal_number refusal)) }
 {
-    -i32::from(refusal.number())
+    -i32::from(u8::from(refusal))
 }
 
 fn kind(frame: Frame<'_>) -> i32

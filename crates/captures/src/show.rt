@@ -6,8 +6,8 @@ use std::fmt;
 
 impl fmt::Display for Parties {
     fn fmt<W: fmt::Write>(&self, f: &mut fmt::Formatter<W>) -> fmt::Result {
-        let i = self.initiator.number();
-        let r = self.responder.number();
+        let i = u64::from(self.initiator);
+        let r = u64::from(self.responder);
         write!(f, "initiator={i:016X} responder={r:016X}")
     }
 }

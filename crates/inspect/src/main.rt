@@ -62,7 +62,7 @@ fn packet_line(
             Ok(Outcome::Packet(Seen::of(unwrapped.frame)))
         }
         Err(refusal) => {
-            let n = refusal.number();
+            let n = u8::from(refusal);
             println!(rt; "{number} packet refused {n}")?;
             Ok(Outcome::Packet(Seen::Refused))
         }

@@ -138,7 +138,7 @@ impl fmt::Display for Answer<'_> {
         match self.0 {
             Ok(finding) => write!(f, "{finding}"),
             Err(refusal) => {
-                let n = refusal.number();
+                let n = u8::from(refusal);
                 write!(f, "refused {n}")
             }
         }

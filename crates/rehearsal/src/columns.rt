@@ -70,7 +70,7 @@ impl fmt::Display for Why {
         match *self {
             Why::Nothing => write!(f, "-"),
             Why::Refused(refusal) => {
-                let number = refusal.number();
+                let number = u8::from(refusal);
                 write!(f, "no{number}")
             }
             Why::Out(Release::Own(own)) => {

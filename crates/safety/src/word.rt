@@ -26,7 +26,7 @@ impl SafetyWord {
     pub fn of(receiver: Identifier, session: u64) -> SafetyWord
         ensures { result.0 ≡ connection_word receiver session }
     {
-        SafetyWord(receiver.number() ^ session)
+        SafetyWord(u64::from(receiver) ^ session)
     }
 
     // The code that stands behind `bytes` under this word.
