@@ -46,12 +46,12 @@ played_more {t} {u} {v} {cs} {ds} {log} {buf} {r} c got p s ec eg = record {
 
 -- both openings
 pub both_opened : (sheet : Sheet) (n : Numbers) (m m₁ m₂ : Meaning) (out out₁ out₂ : List ℕ) (s : Seats)
-    → SeatOpened sheet.initiator.values Initiator (WaitAu2 n.rb.value n.rc.value) m m₁ out out₁ (seat_value s.initiator)
-    → SeatOpened sheet.responder.values Responder (Listen n.ra.value) m₁ m₂ out₁ out₂ (seat_value s.responder)
+    → SeatOpened sheet.initiator.values Initiator (WaitAu2 n.rb.value n.rc.value) m m₁ out out₁ (seat_value s.0.initiator)
+    → SeatOpened sheet.responder.values Responder (Listen n.ra.value) m₁ m₂ out₁ out₂ (seat_value s.0.responder)
     → SeatsOpened sheet n m m₂ s
 both_opened sheet n m m₁ m₂ out out₁ out₂ s a b =
-    let p = seat_value s.initiator in
-    let q = seat_value s.responder in
+    let p = seat_value s.0.initiator in
+    let q = seat_value s.0.responder in
     let first = WaitAu2 n.rb.value n.rc.value in
     let second = Listen n.ra.value in
     let t₁ : LinkValue = record { carrier = m₁; initiator = Some p; responder = None } in

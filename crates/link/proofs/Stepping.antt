@@ -3,7 +3,9 @@ use Rattle.std.proofs.Common.{◌≡◌, ℕ, ◌-◌, ◌≤◌, Bool, true, fa
 use Rattle.std.proofs.lemmas.Bool.{cond_both}
 use Rattle.terms.specs.declared.refusal.Refusal.{Refusal}
 use Rattle.terms.specs.declared.role.Role.{Role}
+use Rattle.terms.specs.declared.role.Role.TheVariants.{Initiator, Responder}
 use Rattle.terms.specs.Roles.{far}
+use Rattle.terms.specs.Sides.{at, with_side}
 use Rattle.carrier.specs.Rules.{Meaning, FetchRules}
 use Rattle.params.specs.declared.call.Action.{Action}
 use Rattle.params.specs.declared.call.Action.TheVariants as action
@@ -15,7 +17,9 @@ use Rattle.ends.specs.Calls.{Ticked, tick_refusal, Fetched, fetch_refusal, came_
 use Rattle.ends.specs.Effects.{delivers, message_place, fetch_put}
 use Rattle.states.specs.States.{EndValue}
 use Rattle.link.specs.Runs.{Sheets, SeatValue, LinkValue, seat, Deed, fetches, stops, Moment, Does, FetchDoes, StopDoes, at_place, tick_puts, came_string}
-use Rattle.link.specs.Seats.{Acts, StopsHeld, Within, Steps}
+use Rattle.link.specs.Seats.{Acts, StopsHeld, Within, Steps, link_value, seat_value}
+use Rattle.link.specs.declared.runs.Seats.{Seats}
+use Rattle.link.specs.declared.seat.Seat.{Seat}
 use Rattle.link.specs.Tells.{deed_of}
 
 -- a tick delivers nothing
@@ -156,3 +160,15 @@ stepped c s h t t' p p' buf buf' out out' r was is other len a =
       step = λ sheets. record { does = d.does sheets; other = subst (λ x. seat (far x) t' ≡ seat (far x) t) (sym h) other };
       within = d.within;
     }
+
+-- the same where the end's seat is one of two
+pub stepped_at : (c : Call) (s : Role) → c.end ≡ s → (m m' : Meaning) (seats : Seats) (x y : Seat) (buf buf' out out' : List ℕ) (r : Answer)
+    → x ≡ at seats.0 s → length buf' ≡ length buf
+    → Acts c.action (seat_value x) (seat_value y) m m' buf buf' out out' r
+    → Steps c (link_value m seats) (link_value m' record { 0 = with_side seats.0 s y }) buf' r
+stepped_at c Initiator h m m' seats x y buf buf' out out' r e len a =
+    stepped c Initiator h (link_value m seats) (link_value m' record { 0 = with_side seats.0 Initiator y }) (seat_value x) (seat_value y)
+    buf buf' out out' r (ap (λ z. Some (seat_value z)) (sym e)) refl refl len a
+stepped_at c Responder h m m' seats x y buf buf' out out' r e len a =
+    stepped c Responder h (link_value m seats) (link_value m' record { 0 = with_side seats.0 Responder y }) (seat_value x) (seat_value y)
+    buf buf' out out' r (ap (λ z. Some (seat_value z)) (sym e)) refl refl len a

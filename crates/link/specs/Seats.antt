@@ -20,20 +20,11 @@ use Rattle.ends.specs.Ends.{end_value}
 use Rattle.states.specs.States.{EndValue}
 use Rattle.link.specs.declared.runs.Line.{Line}
 use Rattle.link.specs.declared.runs.Numbers.{Numbers}
-use Rattle.link.specs.declared.runs.RunError.{RunError}
-use Rattle.link.specs.declared.runs.RunError.TheVariants.{NoMemory, Refused}
 use Rattle.link.specs.declared.runs.Seats.{Seats}
 use Rattle.link.specs.declared.seat.Seat.{Seat}
 use Rattle.link.specs.Times.{History}
 use Rattle.link.specs.Runs.{Sheets, SeatValue, LinkValue, Moment, Step, Ran, at_place}
 use Rattle.link.specs.Tells.{sheets_of, Asked, deeds, openings, deed_of, asked_of, Told, told, told_by, RunRefused}
-
--- the two errors of a run
-abbrev pub no_memory : RunError
-no_memory = NoMemory
-
-abbrev pub by_refusal : Refusal → RunError
-by_refusal x = Refused x
 
 abbrev pub held_of : Option StopToken → Bool
 held_of None = false
@@ -44,7 +35,7 @@ seat_value s = record { end = end_value s.end; held = held_of s.token }
 
 -- both ends on a carrier that means m
 abbrev pub link_value : Meaning → Seats → LinkValue
-link_value m s = record { carrier = m; initiator = Some (seat_value s.initiator); responder = Some (seat_value s.responder) }
+link_value m s = record { carrier = m; initiator = Some (seat_value s.0.initiator); responder = Some (seat_value s.0.responder) }
 
 -- an end opened in its first state, its token out; or none, and the carrier as it was
 pub record SeatOpened (v : Values) (role : Role) (first : State) (m m' : Meaning) (out out' : List ℕ) (s : SeatValue) : Type 0 where

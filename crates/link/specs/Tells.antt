@@ -1,6 +1,8 @@
 -- What a run of a script tells: which calls were made of the two ends, what each answered, and what became of the carrier.
 use Rattle.std.specs.Prelude.{◌≡◌, ℕ, Bool, true, false, List, [], ◌∷◌, ◌++◌, map, take, drop, Some, None, Ok, Err, vec_items, Option, Result, Vec}
 use Rattle.std.specs.declared.alloc.Global.{Global}
+use Rattle.terms.specs.declared.failure.Failure.{Failure}
+use Rattle.terms.specs.declared.failure.Failure.TheVariants.{NoMemory, Cause}
 use Rattle.terms.specs.declared.refusal.Refusal.{Refusal}
 use Rattle.terms.specs.declared.role.Role.{Role}
 use Rattle.terms.specs.declared.role.Role.TheVariants.{Initiator, Responder}
@@ -16,8 +18,6 @@ use Rattle.ends.specs.Puts.{longest_frame}
 use Rattle.states.specs.States.{EndValue}
 use Rattle.link.specs.declared.runs.Line.{Line}
 use Rattle.link.specs.declared.runs.Numbers.{Numbers}
-use Rattle.link.specs.declared.runs.RunError.{RunError}
-use Rattle.link.specs.declared.runs.RunError.TheVariants.{NoMemory, Refused}
 use Rattle.link.specs.Times.{History, new, ◌▸◌}
 use Rattle.link.specs.Runs.{Sheets, SeatValue, LinkValue, Deed, opens, ticks, fetches, stops, Moment, Ran}
 
@@ -110,7 +110,7 @@ pub record RunRefused (m m' : Meaning) (x : Refusal) : Type 0 where
   pub refusal : opening_refusal m.largest longest_frame ≡ Some x
   pub carrier : m' ≡ m
 
-abbrev pub Tells : Sheet → Numbers → Meaning → Meaning → List Call → Result (Vec Line Global) RunError → Type 0
+abbrev pub Tells : Sheet → Numbers → Meaning → Meaning → List Call → Result (Vec Line Global) (Failure Refusal) → Type 0
 Tells sheet numbers m m' calls (Ok lines) = RunMade sheet numbers m m' calls (map told_by (vec_items lines))
 Tells sheet numbers m m' calls (Err NoMemory) = RunHalted sheet numbers m m' calls
-Tells sheet numbers m m' calls (Err (Refused x)) = RunRefused m m' x
+Tells sheet numbers m m' calls (Err (Cause x)) = RunRefused m m' x

@@ -2,24 +2,22 @@
 ghost use Rattle.std.specs.Prelude.{◌≡◌, length, IfOk};
 ghost use Rattle.link.specs.Law.{LawOfTheLink};
 ghost use Rattle.link.specs.Runs.{at_place};
-ghost use Rattle.link.specs.Seats.{OpensSeats, Steps, Plays, Within, link_value, no_memory, by_refusal};
+ghost use Rattle.link.specs.Seats.{OpensSeats, Steps, Plays, Within, link_value};
 ghost use Rattle.link.specs.Tells.{Closed, Tells};
 
+use crate::buffers::Buffers;
 use crate::seat::Seat;
-use carrier::Carrier;
+use carrier::{Carrier, GREATEST_LENGTH};
 use ends::answer::{Answer, Place};
 use ends::opening::InitiatorNumbers;
 use ends::session::SessionNumber;
 use params::call::Call;
 use params::sheet::Sheet;
 use std::alloc::{AllocError, Global};
+use terms::failure::Failure;
+use terms::lengths::LONGEST_FRAME;
 use terms::refusal::Refusal;
-use terms::role::Role;
-
-// The longest frame, which an output buffer holds.
-const LONGEST_FRAME: usize = 1041;
-// The longest string that any carrier hands out, which a fetch buffer holds.
-const LONGEST_STRING: usize = 1100;
+use terms::sides::Sides;
 
 // The session numbers of a link: the initiator's are Rb and Rc, the responder's is Ra.
 #[derive(Drop)]
@@ -36,36 +34,12 @@ pub struct Line {
     pub got: Vec<u8>,
 }
 
-// Why there are no lines.
-#[derive(Clone, Copy)]
-pub enum RunError {
-    // no memory was found to keep them in
-    NoMemory,
-    // the carrier does not take the longest frame, so no end was opened on it
-    Refused(Refusal),
-}
-
-impl From<AllocError> for RunError {
-    ghost from_gives = { λ _ r. r ≡ no_memory };
-
-    fn from(_error: AllocError) -> RunError {
-        RunError::NoMemory
-    }
-}
-
-impl From<Refusal> for RunError {
-    ghost from_gives = { λ x r. r ≡ by_refusal x };
-
-    fn from(refusal: Refusal) -> RunError {
-        RunError::Refused(refusal)
-    }
-}
+// Why there are no lines: the carrier does not take the longest frame, so no end was opened on it, or no memory was found to keep
+// them in.
+pub type RunError = Failure<Refusal>;
 
 // The two ends of a link.
-struct Seats {
-    initiator: Seat,
-    responder: Seat,
-}
+struct Seats(Sides<Seat>);
 
 // The bytes at the place that an answer gives.
 fn copied(heap: Global, buf: &[u8], place: Option<Place>) -> Result<Vec<u8>, AllocError>
@@ -87,30 +61,21 @@ impl Seats {
         let mut out = [0u8; LONGEST_FRAME];
         let numbers = InitiatorNumbers { rb, rc };
         let initiator = Seat::initiator(sheet.initiator, numbers, carrier, &mut out)?;
-        match Seat::responder(sheet.responder, ra, carrier, &mut out) {
-            Ok(responder) => Ok(Seats {
-                initiator,
-                responder,
-            }),
-            // a refusal is of the carrier or the buffer, and the first opening had the same two
-            Err(_) => unreachable(),
-        }
+        // a refusal is of the carrier or the buffer, and the first opening had the same two
+        let Ok(responder) = Seat::responder(sheet.responder, ra, carrier, &mut out) else {
+            unreachable()
+        };
+        Ok(Seats(Sides {
+            initiator,
+            responder,
+        }))
     }
 
     // One call.
-    fn step<C: Carrier>(
-        &mut self,
-        carrier: &mut C,
-        call: &Call,
-        buf: &mut [u8],
-        out: &mut [u8],
-    ) -> Answer
-        ensures { Steps call.now (link_value (C.meaning carrier.old) self.old) (link_value (C.meaning carrier.new) self.new) buf.new result }
+    fn step<C: Carrier>(&mut self, carrier: &mut C, call: &Call, buffers: &mut Buffers) -> Answer
+        ensures { Steps call.now (link_value (C.meaning carrier.old) self.old) (link_value (C.meaning carrier.new) self.new) buffers.new.fetched result }
     {
-        match call.end {
-            Role::Initiator => self.initiator.act(carrier, &call.action, buf, out),
-            Role::Responder => self.responder.act(carrier, &call.action, buf, out),
-        }
+        self.0.at_mut(call.end).act(carrier, &call.action, buffers)
     }
 
     // The calls one after another, a line for each.
@@ -122,12 +87,14 @@ impl Seats {
     ) -> Result<Vec<Line>, AllocError>
         ensures { Plays (link_value (C.meaning carrier.old) self.old) (link_value (C.meaning carrier.new) self.new) calls.now result }
     {
-        let mut buf = [0u8; LONGEST_STRING];
-        let mut out = [0u8; LONGEST_FRAME];
+        let mut buffers = Buffers {
+            fetched: [0; GREATEST_LENGTH],
+            out: [0; LONGEST_FRAME],
+        };
         let mut lines = Vec::new(heap);
         for call in calls {
-            let answer = self.step(carrier, call, &mut buf, &mut out);
-            let got = copied(heap, &buf, answer.delivered)?;
+            let answer = self.step(carrier, call, &mut buffers);
+            let got = copied(heap, &buffers.fetched, answer.delivered)?;
             lines.push(Line { answer, got })?;
         }
         Ok(lines)
@@ -137,10 +104,11 @@ impl Seats {
     fn finish<C: Carrier>(self, carrier: &mut C)
         ensures { Closed (link_value (C.meaning carrier.old) self) (C.meaning carrier.new) }
     {
-        let Seats {
+        let Seats(seats) = self;
+        let Sides {
             initiator,
             responder,
-        } = self;
+        } = seats;
         initiator.finish(carrier);
         responder.finish(carrier);
     }

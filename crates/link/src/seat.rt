@@ -1,11 +1,12 @@
 // An end on its side of a carrier, beside its stop token.
-ghost use Rattle.std.specs.Prelude.{◌≡◌, true};
+ghost use Rattle.std.specs.Prelude.{◌≡◌, true, length};
 ghost use Rattle.terms.specs.declared.role.Role.TheVariants.{Initiator, Responder};
 ghost use Rattle.states.specs.declared.state.State.TheVariants.{WaitAu2, Listen};
 ghost use Rattle.ends.specs.Ends.{end_value};
 ghost use Rattle.link.specs.Seats.{seat_value, OpensSeat, Acts, StopActs};
 ghost use Rattle.link.specs.Tells.{LetGo};
 
+use crate::buffers::Buffers;
 use carrier::Carrier;
 use ends::answer::Answer;
 use ends::end::End;
@@ -84,14 +85,16 @@ impl Seat {
         &mut self,
         carrier: &mut C,
         action: &Action,
-        buf: &mut [u8],
-        out: &mut [u8],
+        buffers: &mut Buffers,
     ) -> Answer
-        ensures { Acts action.now (seat_value self.old) (seat_value self.new) (C.meaning carrier.old) (C.meaning carrier.new) buf.old buf.new out.old out.new result }
+        ensures acts { Acts action.now (seat_value self.old) (seat_value self.new) (C.meaning carrier.old) (C.meaning carrier.new) buffers.old.fetched buffers.new.fetched buffers.old.out buffers.new.out result }
+        ensures lasting { length buffers.new.fetched ≡ length buffers.old.fetched }
     {
         match action {
-            Action::Tick(message) => self.end.tick(carrier, message.as_slice(), out),
-            Action::Fetch => self.end.fetch(carrier, buf, out),
+            Action::Tick(message) => self.end.tick(carrier, message.as_slice(), &mut buffers.out),
+            Action::Fetch => self
+                .end
+                .fetch(carrier, &mut buffers.fetched, &mut buffers.out),
             Action::Stop => self.stop(carrier),
         }
     }

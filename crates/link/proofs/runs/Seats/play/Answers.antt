@@ -17,14 +17,14 @@ loop-call-preserved g c =
     let push = pushed {was = vec_items c.loop-call.lines} (l ∷ []) refl c.in_ok-push.was c.push.ensures.items in
     let t = link_value (g.C.Carrier.meaning c.args.carrier.now) c.args.self.now in
     let u = link_value (g.C.Carrier.meaning c.step-answer.new.carrier) c.step-answer.new.self in
-    let more = played_more k (vec_items c.in_ok-got.got) c.loop-call.invariant.2 c.step-answer.ensures read c.in_ok-got.ensures in
-    (search rules, search rules, subst (Played t u (take (i + 1) c.args.calls.now)) (sym (ap (map told_by) push ∙ map_push told_by (vec_items c.loop-call.lines) l)) more)
+    let more = played_more k (vec_items c.in_ok-got.got) c.loop-call.invariant c.step-answer.ensures read c.in_ok-got.ensures in
+    subst (Played t u (take (i + 1) c.args.calls.now)) (sym (ap (map told_by) push ∙ map_push told_by (vec_items c.loop-call.lines) l)) more
 
 pub returns : goal.returns
 returns g c =
     let t = link_value (g.C.Carrier.meaning c.args.carrier.now) c.args.self.now in
     let u = link_value (g.C.Carrier.meaning c.loop-call.carrier) c.loop-call.self in
-    subst (λ x. Played t u x (map told_by (vec_items c.loop-call.lines))) (take_all c.loop-call.call-index c.args.calls.now c.loop-call-test.false) c.loop-call.invariant.2
+    subst (λ x. Played t u x (map told_by (vec_items c.loop-call.lines))) (take_all c.loop-call.call-index c.args.calls.now c.loop-call-test.false) c.loop-call.invariant
 
 pub returns-in_err-got : goal.returns-in_err-got
 returns-in_err-got g c =
@@ -32,7 +32,7 @@ returns-in_err-got g c =
     let k = c.call-item.result in
     let i = c.loop-call.call-index in
     let read = take_more c.args.calls.now i k c.loop-call-test.true ∙ ap (λ x. take i c.args.calls.now ++ (x ∷ [])) (sym c.call-item.is) in
-    rw p.1 record { number = i + 1; answers = _; played = played_more k _ c.loop-call.invariant.2 c.step-answer.ensures read refl }
+    rw p.1 record { number = i + 1; answers = _; played = played_more k _ c.loop-call.invariant c.step-answer.ensures read refl }
 
 pub returns-in_err-push : goal.returns-in_err-push
 returns-in_err-push g c =
@@ -40,4 +40,4 @@ returns-in_err-push g c =
     let k = c.call-item.result in
     let i = c.loop-call.call-index in
     let read = take_more c.args.calls.now i k c.loop-call-test.true ∙ ap (λ x. take i c.args.calls.now ++ (x ∷ [])) (sym c.call-item.is) in
-    rw p.1 record { number = i + 1; answers = _; played = played_more k _ c.loop-call.invariant.2 c.step-answer.ensures read refl }
+    rw p.1 record { number = i + 1; answers = _; played = played_more k _ c.loop-call.invariant c.step-answer.ensures read refl }
