@@ -1,10 +1,11 @@
 -- The types of frame: first bytes, lengths and reasons.
-use Rattle.std.specs.Prelude.{◌≡◌, ℕ, ◌+◌, ◌*◌, ◌/◌, ◌≤◌, Bool, cond, ◌&&◌, Some, None, Option, ◌==◌, nat_le}
+use Rattle.std.specs.Prelude.{◌≡◌, ℕ, ◌+◌, ◌*◌, ◌/◌, ◌≤◌, Bool, cond, ◌&&◌, List, ◌∷◌, ◌++◌, Some, None, decimal, Option, ◌==◌, nat_le}
 use Rattle.codec.specs.declared.frame_type.FrameType.{FrameType}
 use Rattle.codec.specs.declared.frame_type.FrameType.TheVariants.{Au1, Au2, Au3, Dt, Di, Ar}
 use Rattle.codec.specs.declared.frame_type.FrameRule.{FrameRule}
 use Rattle.codec.specs.declared.frame_type.Lengths.{Lengths}
 use Rattle.codec.specs.declared.frame_type.Lengths.TheVariants.{Exactly, WithMessage}
+use Rattle.codec.specs.declared.frame_type.ReasonCodes.{ReasonCodes}
 use Rattle.terms.specs.Roles.{flag}
 use Rattle.terms.specs.declared.role.Role.{Role}
 use Rattle.terms.specs.declared.role.Role.TheVariants.{Initiator, Responder}
@@ -67,3 +68,7 @@ Suits Au3 n = n ≡ 8
 Suits Dt n = 17 ≤ n
 Suits Di n = n ≡ 2
 Suits Ar n = n ≡ 8
+
+-- the two codes of a release with a slash, 47, between them
+abbrev pub codes_text : ReasonCodes → List ℕ
+codes_text c = decimal c.reason ++ (47 ∷ decimal c.sub_reason)

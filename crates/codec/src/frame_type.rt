@@ -1,6 +1,8 @@
 // The types of frame: for each the lengths that it may have, and the reason of a release where its length is wrong.
-ghost use Rattle.std.specs.Prelude.{◌≡◌};
-ghost use Rattle.codec.specs.FrameTypes.{rule_of, suits_length, type_named};
+ghost use Rattle.std.specs.Prelude.{◌≡◌, Some};
+ghost use Rattle.codec.specs.FrameTypes.{codes_text, rule_of, suits_length, type_named};
+
+use std::fmt;
 
 #[derive(Clone, Copy, PartialEq, Eq, Debug)]
 pub enum FrameType {
@@ -17,6 +19,15 @@ pub enum FrameType {
 pub struct ReasonCodes {
     pub reason: u8,
     pub sub_reason: u8,
+}
+
+impl fmt::Display for ReasonCodes {
+    ghost output = { λ codes. Some (codes_text codes) };
+
+    fn fmt<W: fmt::Write>(&self, f: &mut fmt::Formatter<W>) -> fmt::Result {
+        let ReasonCodes { reason, sub_reason } = *self;
+        write!(f, "{reason}/{sub_reason}")
+    }
 }
 
 // The lengths that a frame may have, the first byte and a safety code counted.

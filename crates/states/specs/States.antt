@@ -1,5 +1,5 @@
 -- An end by its values, and its states by their names.
-use Rattle.std.specs.Prelude.{ℕ}
+use Rattle.std.specs.Prelude.{ℕ, List, codes}
 use Rattle.terms.specs.declared.role.Role.{Role}
 use Rattle.terms.specs.declared.counters.SequenceNumber.{SequenceNumber}
 use Rattle.terms.specs.declared.counters.ExecutionCycle.{ExecutionCycle}
@@ -111,3 +111,14 @@ pub record EndValue : Type 0 where
   pub ec : ExecutionCycle
   pub count : Ticks
   pub state : State
+
+-- a state's name, as a listing has it
+abbrev pub state_word : Status → List ℕ
+state_word status.WaitAu2 = codes "waitau2"
+state_word status.WaitAr = codes "waitar"
+state_word status.Listen = codes "listen"
+state_word status.WaitAu3 = codes "waitau3"
+state_word status.WaitEc = codes "waitec"
+state_word status.WaitFirst = codes "waitfirst"
+state_word status.Up = codes "up"
+state_word (status.Out release) = codes "out"

@@ -1,9 +1,10 @@
 // The states of an end, each with what it needs.
-ghost use Rattle.std.specs.Prelude.{◌≡◌};
-ghost use Rattle.states.specs.States.{status_of};
+ghost use Rattle.std.specs.Prelude.{◌≡◌, Some};
+ghost use Rattle.states.specs.States.{state_word, status_of};
 
 use crate::reason::Release;
 use safety::word::SafetyWord;
+use std::fmt;
 use terms::counters::{ExecutionCycle, SequenceNumber};
 
 // The word by which an end reads data frames, and the one with which it seals its own.
@@ -84,5 +85,23 @@ impl State {
             State::Up { .. } => Status::Up,
             State::Out(release) => Status::Out(release),
         }
+    }
+}
+
+// Shown by the name of the state alone.
+impl fmt::Display for Status {
+    ghost output = { λ status. Some (state_word status) };
+
+    fn fmt<W: fmt::Write>(&self, f: &mut fmt::Formatter<W>) -> fmt::Result {
+        f.write_str(match self {
+            Status::WaitAu2 => "waitau2",
+            Status::WaitAr => "waitar",
+            Status::Listen => "listen",
+            Status::WaitAu3 => "waitau3",
+            Status::WaitEc => "waitec",
+            Status::WaitFirst => "waitfirst",
+            Status::Up => "up",
+            Status::Out(_) => "out",
+        })
     }
 }
