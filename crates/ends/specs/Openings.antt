@@ -7,7 +7,7 @@ use Rattle.params.specs.declared.values.Values.{Values}
 use Rattle.ends.specs.declared.opening.Opened.{Opened}
 use Rattle.ends.specs.declared.opening.NotOpened.{NotOpened}
 use Rattle.ends.specs.declared.opening.InitiatorNumbers.{InitiatorNumbers}
-use Rattle.ends.specs.declared.session.SessionNumber.{SessionNumber}
+use Rattle.ends.specs.declared.opening.ResponderNumbers.{ResponderNumbers}
 use Rattle.states.specs.declared.state.State.{State}
 use Rattle.states.specs.declared.state.State.TheVariants as state
 use Rattle.ends.specs.Ends.{end_value}
@@ -31,5 +31,5 @@ OpensAs v numbers role first m m' out out' (Err x) = OpenRefused numbers m m' ou
 abbrev pub OpensInitiator : Values → InitiatorNumbers → Meaning → Meaning → List ℕ → List ℕ → Result Opened (NotOpened InitiatorNumbers) → Type 0
 OpensInitiator v numbers = OpensAs v numbers Initiator (state.WaitAu2 numbers.rb.value numbers.rc.value)
 
-abbrev pub OpensResponder : Values → SessionNumber → Meaning → Meaning → List ℕ → List ℕ → Result Opened (NotOpened SessionNumber) → Type 0
-OpensResponder v ra = OpensAs v ra Responder (state.Listen ra.value)
+abbrev pub OpensResponder : Values → ResponderNumbers → Meaning → Meaning → List ℕ → List ℕ → Result Opened (NotOpened ResponderNumbers) → Type 0
+OpensResponder v numbers = OpensAs v numbers Responder (state.Listen numbers.ra.value)

@@ -1,12 +1,13 @@
 // The frames that an end puts, laid into its output buffer.
 ghost use Rattle.std.specs.Prelude.{◌≡◌, ◌<◌, ◌≤◌, true, [], length};
 ghost use Rattle.terms.specs.Buffers.{overlay};
-ghost use Rattle.codec.specs.Frames.{au1, au2, au3, ar, di, frame_value, bytes_of, sized};
+ghost use Rattle.codec.specs.Frames.{au2, au3, ar, di, frame_value, bytes_of, sized};
 ghost use Rattle.terms.specs.Roles.{far};
 ghost use Rattle.codec.specs.Sealing.{sealed};
 ghost use Rattle.codec.specs.Telegrams.{ec_start, telegram_bytes, content_bytes, content_value};
 ghost use Rattle.ends.specs.Ends.{end_value};
 ghost use Rattle.ends.specs.Puts.{longest_frame, put_length, put_into, Short};
+ghost use Rattle.ends.specs.Calls.{opening_put};
 ghost use Rattle.ends.specs.Effects.{risen, Room, Numbered, release_frame, data_frame, start_frame, ack_frame, sent_frame, tick_put, answer_first, answer_up, fetch_put, put_telegram, put_opening};
 
 use super::end::End;
@@ -20,12 +21,6 @@ use states::reason::Reason;
 use states::state::State;
 use terms::counters::{ExecutionCycle, SequenceNumber};
 use terms::role::Role;
-
-pub(crate) fn au1(rb: u64) -> Frame<'static>
-    ensures { frame_value result ≡ au1 rb }
-{
-    Frame::Au1 { rb }
-}
 
 fn au2(ra_xor_rb: u64) -> Frame<'static>
     ensures { frame_value result ≡ au2 ra_xor_rb }
@@ -66,6 +61,19 @@ pub(crate) fn lay_frame(frame: Frame<'_>, out: &mut [u8]) -> usize
     match frame.write(out) {
         Ok(n) => n,
         Err(_) => unreachable(),
+    }
+}
+
+// The frame that an opening puts, by the state in which the end begins.
+pub(crate) fn lay_first(state: State, out: &mut [u8]) -> Option<usize>
+    requires { longest_frame ≤ length out.old }
+    ensures value { result ≡ put_length (opening_put state) }
+    ensures after { out.new ≡ put_into (opening_put state) out.old }
+    ensures short { Short result }
+{
+    match state {
+        State::WaitAu2 { rb, .. } => Some(lay_frame(Frame::Au1 { rb }, out)),
+        _ => None,
     }
 }
 

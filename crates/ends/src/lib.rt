@@ -10,5 +10,6 @@ mod frames;
 mod judging;
 pub mod opening;
 mod reading;
+mod sealed;
 pub mod session;
 mod ways;

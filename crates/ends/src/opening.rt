@@ -1,24 +1,25 @@
 // Opening an end: it takes session numbers by move, and hands out a token that only a stop takes back.
 ghost use Rattle.std.specs.Prelude.{◌≡◌};
+ghost use Rattle.terms.specs.declared.role.Role.TheVariants.{Initiator, Responder};
+ghost use Rattle.states.specs.declared.state.State.TheVariants.{WaitAu2, Listen};
 ghost use Rattle.ends.specs.Calls.{opened};
-ghost use Rattle.ends.specs.Openings.{OpensInitiator, OpensResponder};
+ghost use Rattle.ends.specs.Openings.{OpensAs};
 ghost use Rattle.ends.specs.Ends.{end_value};
 ghost use Rattle.ends.specs.Steps.{OpeningStep};
 
 use super::answer::Answer;
 use super::calls::{put, refusal};
 use super::end::End;
-use super::frames::{au1, lay_frame};
-use super::session::{SessionNumber, StopToken};
+use super::frames::lay_first;
+use super::sealed::Sealed;
+use super::session::{SessionNumber, SessionNumbers, StopToken};
 use carrier::Carrier;
 use params::params::Params;
 use states::state::State;
 use terms::counters::Ticks;
+use terms::lengths::LONGEST_FRAME;
 use terms::refusal::Refusal;
 use terms::role::Role;
-
-// The longest frame: a carrier takes it, and an output buffer holds it.
-const LONGEST_FRAME: usize = 1041;
 
 // An end just opened, beside the token that its stop takes back.
 pub struct Opened {
@@ -41,6 +42,47 @@ pub struct InitiatorNumbers {
     pub rc: SessionNumber,
 }
 
+// The one number of a responder.
+#[derive(Drop)]
+pub struct ResponderNumbers {
+    pub ra: SessionNumber,
+}
+
+impl Sealed for InitiatorNumbers {}
+
+impl Sealed for ResponderNumbers {}
+
+impl SessionNumbers for InitiatorNumbers {
+    ghost role = { Initiator };
+
+    ghost first = { λ numbers. WaitAu2 numbers.rb.value numbers.rc.value };
+
+    fn role() -> Role {
+        Role::Initiator
+    }
+
+    fn first_state(&self) -> State {
+        State::WaitAu2 {
+            rb: self.rb.value,
+            rc: self.rc.value,
+        }
+    }
+}
+
+impl SessionNumbers for ResponderNumbers {
+    ghost role = { Responder };
+
+    ghost first = { λ numbers. Listen numbers.ra.value };
+
+    fn role() -> Role {
+        Role::Responder
+    }
+
+    fn first_state(&self) -> State {
+        State::Listen { ra: self.ra.value }
+    }
+}
+
 // An end in its first state.
 fn first(params: Params, role: Role, state: State) -> End
     ensures { end_value result ≡ opened params.values role state }
@@ -56,52 +98,23 @@ fn first(params: Params, role: Role, state: State) -> End
 }
 
 impl End {
-    // Opens an initiator, which puts AU1.
-    pub fn open_initiator<C: Carrier>(
+    // Opens an end of the party whose numbers these are, which puts the frame of its first state, if that has one.
+    pub fn open<C: Carrier, N: SessionNumbers>(
         params: Params,
-        numbers: InitiatorNumbers,
+        numbers: N,
         carrier: &mut C,
         out: &mut [u8],
-    ) -> Result<Opened, NotOpened<InitiatorNumbers>>
-        ensures rules { OpensInitiator params.values numbers (C.meaning carrier.old) (C.meaning carrier.new) out.old out.new result }
-        ensures exact { OpeningStep C.putting carrier.old carrier.new Role.Initiator (State.WaitAu2 numbers.rb.value numbers.rc.value) (C.meaning carrier.old).largest out.old }
+    ) -> Result<Opened, NotOpened<N>>
+        ensures rules { OpensAs params.values numbers N.role (N.first numbers) (C.meaning carrier.old) (C.meaning carrier.new) out.old out.new result }
+        ensures exact { OpeningStep C.putting carrier.old carrier.new N.role (N.first numbers) (C.meaning carrier.old).largest out.old }
     {
         if let Some(refusal) = refusal(carrier.max_len(), out.len() >= LONGEST_FRAME, None) {
             return Err(NotOpened { refusal, numbers });
         }
-        let state = State::WaitAu2 {
-            rb: numbers.rb.value,
-            rc: numbers.rc.value,
-        };
-        let end = first(params, Role::Initiator, state);
-        let laid = Some(lay_frame(au1(numbers.rb.value), out));
-        put(carrier, Role::Initiator, laid, out);
+        let end = first(params, N::role(), numbers.first_state());
+        let laid = lay_first(end.state, out);
+        put(carrier, end.role, laid, out);
         let answer = end.answer(None, None, laid);
-        Ok(Opened {
-            end,
-            token: StopToken { spent: () },
-            answer,
-        })
-    }
-
-    // Opens a responder, which awaits AU1.
-    pub fn open_responder<C: Carrier>(
-        params: Params,
-        ra: SessionNumber,
-        carrier: &mut C,
-        out: &mut [u8],
-    ) -> Result<Opened, NotOpened<SessionNumber>>
-        ensures rules { OpensResponder params.values ra (C.meaning carrier.old) (C.meaning carrier.new) out.old out.new result }
-        ensures exact { OpeningStep C.putting carrier.old carrier.new Role.Responder (State.Listen ra.value) (C.meaning carrier.old).largest out.old }
-    {
-        if let Some(refusal) = refusal(carrier.max_len(), out.len() >= LONGEST_FRAME, None) {
-            return Err(NotOpened {
-                refusal,
-                numbers: ra,
-            });
-        }
-        let end = first(params, Role::Responder, State::Listen { ra: ra.value });
-        let answer = end.answer(None, None, None);
         Ok(Opened {
             end,
             token: StopToken { spent: () },

@@ -1,0 +1,3 @@
+// What keeps a public trait to the impls of this crate.
+
+pub trait Sealed {}
