@@ -1,19 +1,20 @@
 -- What a store does keeps the rules of a carrier.
-use Rattle.std.proofs.Common.{◌≡◌, ℕ, zero, suc, ◌-◌, ◌<◌, ◌≤◌, Bool, true, false, cond, leb, List, [], ◌∷◌, ◌++◌, length, get_or, take, drop, Some, None, Ok, Err, Option, Result, sym, refl, ap, ◌∙◌, subst, inl, inr, ⊎_elim, arith, le-leb, leb-false, leb-true}
+use Rattle.std.proofs.Common.{◌≡◌, ℕ, zero, suc, ◌<◌, Bool, true, false, cond, leb, List, [], ◌∷◌, ◌++◌, length, get_or, take, drop, Some, None, Ok, Err, Option, Result, sym, refl, ap, ◌∙◌, subst, inl, inr, ⊎_elim, arith, leb-false, leb-true}
 use mathlib.Core.List.Memᴰ
 use mathlib.Core.List.{Memᴰ}
 use Rattle.std.specs.List.{remove}
+use Rattle.std.proofs.lemmas.Bool.Decides.{nat_tests}
 use Rattle.std.proofs.lemmas.List.{take_at, drop_at}
 use Rattle.terms.specs.declared.role.Role.{Role}
-use Rattle.terms.specs.declared.role.Role.TheVariants.{Initiator, Responder}
 use Rattle.carrier.specs.declared.Keeping.{Keeping}
 use Rattle.terms.specs.declared.refusal.Refusal.{Refusal}
 use Rattle.terms.specs.Roles.{far}
+use Rattle.terms.specs.Sides.{at}
 use Rattle.carrier.specs.Rules.{Strings, Meaning, greatest_length, NoGain, PutRules, FetchRules}
-use Rattle.carrier.proofs.Sides.{both, no_gain_same, mem_get_d}
+use Rattle.carrier.proofs.Sides.{both, no_gain_same, mem_get_or}
 use Rattle.carrier.specs.declared.store.Store.{Store}
-use Rattle.carrier.specs.Packing.{Short, laid_out}
-use Rattle.carrier.specs.Wires.{wire_meaning, strings_at, memory_at, room_at, fits, WirePut, place_of, fetch_answer, fetch_strings, fetch_buffer, WireFetch}
+use Rattle.carrier.specs.Packing.{Short}
+use Rattle.carrier.specs.Wires.{wire_meaning, strings_at, room_at, fits, WirePut, place_of, fetch_answer, fetch_strings, fetch_buffer, WireFetch}
 
 abbrev means : (Role → Strings) → Meaning
 means f = record { largest = greatest_length; strings = f }
@@ -76,45 +77,15 @@ module _ (before after : Role → Strings) (at : Role) (buf buf' : List ℕ) (r 
         room = leb-true greatest_length (length buf) l;
         none = record { maximum = refl; none = both (λ x. NoGain (before x) (after x)) at (no_gain_kept stays (before at) (after at) k n) (no_gain_same (before (far at)) (after (far at)) a) };
         within = omega (arith, sh k (in' k refl), leb-true greatest_length (length buf) l);
-        came = Memᴰ.cast (ap (take (length s)) w ∙ take_at s (drop (length s) buf) (length s) refl) (mem_get_d (before at) k (in' k refl));
+        came = Memᴰ.cast (ap (take (length s)) w ∙ take_at s (drop (length s) buf) (length s) refl) (mem_get_or (before at) k (in' k refl));
         rest = ap (drop (length s)) w ∙ drop_at s (drop (length s) buf) (length s) refl;
       })
 
-short : (t : Store) (side : Role) → Short (strings_at t side)
-short t Initiator = t.initiator.short
-short t Responder = t.responder.short
-
-pub fetch_rules : (before after : Store) (at : Role) (chosen : Option ℕ) (stays : Bool) (buf buf' : List ℕ) (r : Result (Option ℕ) Refusal)
-    → ((k : ℕ) → chosen ≡ Some k → k < length (strings_at before at))
-    → WireFetch before after at chosen stays buf buf' r → FetchRules (wire_meaning before) (wire_meaning after) at buf buf' r
-fetch_rules before after at chosen stays buf buf' r in' p =
-    fetch_by (strings_at before) (strings_at after) at buf buf' r stays (leb greatest_length (length buf)) chosen refl (short before at) in' p.answer p.near p.across p.written
-
-pub handed : (before after : Store) (at : Role) (k : ℕ) (stays : Bool) (buf buf' : List ℕ) (n : ℕ) → greatest_length ≤ length buf
-    → n ≡ length (get_or (strings_at before at) k []) → buf' ≡ get_or (strings_at before at) k [] ++ drop n buf
-    → strings_at after at ≡ cond stays (strings_at before at) (remove (strings_at before at) k) → strings_at after (far at) ≡ strings_at before (far at)
-    → memory_at after at ≡ cond stays (memory_at before at) (laid_out (remove (strings_at before at) k) (memory_at before at)) → memory_at after (far at) ≡ memory_at before (far at)
-    → ((side : Role) → room_at after side ≡ room_at before side)
-    → WireFetch before after at (Some k) stays buf buf' (Ok (Some n))
-handed before after at k stays buf buf' n le e w near across near_memory across_memory rooms =
-    let b : leb greatest_length (length buf) ≡ true = le-leb greatest_length (length buf) le in
-    record {
-      answer = rw b (ap (λ x. Ok (Some x)) e);
-      near = rw b near;
-      across = across;
-      written = rw b (w ∙ ap (λ x. get_or (strings_at before at) k [] ++ drop x buf) e);
-      near_memory = rw b near_memory;
-      across_memory = across_memory;
-      rooms = rooms;
-    }
-
-place_by : (a b : Bool) (n k len : ℕ) → leb 1 n ≡ a → leb n len ≡ b → cond a (cond b (Some (n - 1)) None) None ≡ Some k → k < len
-place_by true true n k len p q e = let z : n - 1 ≡ k = cc in omega (arith, leb-true 1 n p, leb-true n len q)
-place_by true false n k len p q e = let z : ◌≡◌ {A = ℕ} 0 1 = cc in absurd (omega arith)
-place_by false b n k len p q e = let z : ◌≡◌ {A = ℕ} 0 1 = cc in absurd (omega arith)
+pub fetch_rules : (before after : Store) (side : Role) (chosen : Option ℕ) (stays : Bool) (buf buf' : List ℕ) (r : Result (Option ℕ) Refusal)
+    → ((k : ℕ) → chosen ≡ Some k → k < length (strings_at before side))
+    → WireFetch before after side chosen stays buf buf' r → FetchRules (wire_meaning before) (wire_meaning after) side buf buf' r
+fetch_rules before after side chosen stays buf buf' r in' p =
+    fetch_by (strings_at before) (strings_at after) side buf buf' r stays (leb greatest_length (length buf)) chosen refl (at before.queues side).short in' p.answer p.near p.across p.written
 
 pub place_within : (ss : Strings) (n k : ℕ) → place_of ss n ≡ Some k → k < length ss
-place_within ss n k e = place_by (leb 1 n) (leb n (length ss)) n k (length ss) refl refl e
-
-pub place_some : (ss : Strings) (n : ℕ) → 1 ≤ n → n ≤ length ss → place_of ss n ≡ Some (n - 1)
-place_some ss n a b = rw (le-leb 1 n a, le-leb n (length ss) b)
+place_within ss n k e = grind (arith, nat_tests)

@@ -1,9 +1,12 @@
 -- Strings that lie packed in a memory: they can be read back, and what a push and a removal leave.
-use Rattle.std.proofs.Common.{◌≡◌, ℕ, zero, suc, ◌+◌, ◌-◌, ◌*◌, ◌/◌, ◌%◌, ◌<◌, ◌≤◌, List, [], ◌∷◌, ◌++◌, length, get_or, take, drop, set, sym, refl, ap, ◌∙◌, subst, ⊎_elim, append_assoc, div-add-mod', arith, length-append, length-set}
+use Rattle.std.proofs.Common.{◌≡◌, ℕ, zero, suc, ◌+◌, ◌-◌, ◌*◌, ◌/◌, ◌%◌, ◌<◌, ◌≤◌, List, [], ◌∷◌, ◌++◌, length, get_or, take, drop, sym, refl, ap, ◌∙◌, subst, ⊎_elim, append_assoc, div-add-mod', arith, length-append}
 use borrow.Rule.Slice.PartMut.{put_mid}
 use Rattle.std.specs.List.{flat_map, remove}
-use Rattle.std.proofs.lemmas.List.{take_at, drop_at, drop-drop, flat_map_more, length_push, take-append-drop, length-take-le, take_more_set, drop-set-lt, get_or_append_left, get_or_push, get_or_at, get_or-append-add, take_more, length-drop}
+use Rattle.std.proofs.lemmas.List.{take_at, drop_at, drop-drop, flat_map_more, length_push, take-append-drop, length-take-le, get_or_append_left, get_or_push, get_or_at, get_or-append-add, take_more, length-drop}
+use Rattle.std.proofs.lemmas.List.Concat.{flat_map-append}
 use Rattle.std.proofs.lemmas.List.Edits.{length-remove, get_or-remove_below, get_or-remove_above, take-paste, drop-paste, length-paste}
+use Rattle.std.proofs.lemmas.Slice.{take-put_mid, drop-put_mid}
+use Rattle.std.specs.Int.{to_be_bytes, w16}
 use lib.Seq.{paste}
 use Rattle.std.proofs.lemmas.Bool.{cases_lt}
 use Rattle.carrier.specs.Rules.{Strings, greatest_length}
@@ -49,22 +52,24 @@ used_push memory rest used ss s le h =
     ∙ ap (λ x. x ++ packed s) h
     ∙ flat_map_more packed [] ss s
 
--- what two writes of a byte and one of a string leave
-pub stored : (m ys s : List ℕ) (at k h l : ℕ) → at + (length s + 2) ≤ length m → k ≡ length s → ys ≡ s
-    → put_mid (at + 2) k (set (set m at h) (at + 1) l) ys ≡ take at m ++ (h ∷ (l ∷ (s ++ drop (at + (length s + 2)) m)))
-stored m ys s at k h l le n e =
-    let w : List ℕ = set (set m at h) (at + 1) l in
-    let in0 : at < length m = omega arith in
-    let in1 : at + 1 < length (set m at h) = simp length-set (omega arith) in
-    let two : at + 2 ≡ at + 1 + 1 = omega arith in
-    let front : take (at + 2) w ≡ (take at m ++ h ∷ []) ++ l ∷ [] =
-    ap (λ i. take i w) two ∙ take_more_set (set m at h) (at + 1) l in1 ∙ ap (λ x. x ++ l ∷ []) (take_more_set m at h in0) in
-    let end : at + 2 + k ≡ at + (length s + 2) = omega arith in
-    let b0 : at < at + (length s + 2) = omega arith in
-    let b1 : at + 1 < at + (length s + 2) = omega arith in
-    let back : drop k (drop (at + 2) w) ≡ drop (at + (length s + 2)) m =
-    drop-drop k (at + 2) w ∙ ap (λ i. drop i w) end ∙ drop-set-lt (at + (length s + 2)) (set m at h) (at + 1) l b1 ∙ drop-set-lt (at + (length s + 2)) m at h b0 in
-    rw (front, back, e) (simp append_assoc)
+-- what two writes side by side leave
+written : (m xs ys : List ℕ) (a b j k : ℕ) → j ≡ length xs → k ≡ length ys → b ≡ a + length xs → b + length ys ≤ length m
+    → put_mid b k (put_mid a j m xs) ys ≡ take a m ++ (xs ++ (ys ++ drop (b + length ys) m))
+written m xs ys a b j k n o e le =
+    let front : take b (put_mid a j m xs) ≡ take a m ++ xs = take-put_mid a j m xs b e (omega arith) in
+    let back : drop k (drop b (put_mid a j m xs)) ≡ drop (b + length ys) m =
+    drop-drop k b (put_mid a j m xs) ∙ ap (λ i. drop (b + i) (put_mid a j m xs)) o ∙ drop-put_mid a j m xs (b + length ys) (omega arith) (omega arith) (sym n) in
+    rw (front, back) (append_assoc (take a m) xs (ys ++ drop (b + length ys) m))
+
+-- a string behind its length
+pub stored : (m xs ys s : List ℕ) (a b j k : ℕ) → j ≡ 2 → k ≡ length s → xs ≡ to_be_bytes w16 (length s) → ys ≡ s → b ≡ a + 2 → length s ≤ greatest_length → a + (length s + 2) ≤ length m
+    → put_mid b k (put_mid a j m xs) ys ≡ take a m ++ (packed s ++ drop (a + (length s + 2)) m)
+stored m xs ys s a b j k n o p q e short le =
+    let high : length s / 256 % 256 ≡ length s / 256 = omega arith in
+    let end : b + length ys ≡ a + (length s + 2) = omega (arith, ap length q) in
+    let w : put_mid b k (put_mid a j m xs) ys ≡ take a m ++ (xs ++ (ys ++ drop (b + length ys) m)) =
+    written m xs ys a b j k (n ∙ sym (ap length p)) (o ∙ sym (ap length q)) (e ∙ ap (λ z. a + z) (sym (ap length p))) (omega (arith, ap length q)) in
+    rw (w, end, p, q, high)
 
 pub short_push : (ss : Strings) (s : List ℕ) → Short ss → length s ≤ greatest_length → Short (ss ++ s ∷ [])
 short_push ss s h l k lt =
@@ -113,10 +118,6 @@ holding_push memory memory' s used count w le sh l e =
     (ap (drop used') e' ∙ drop_at front rest used' n)
     (omega (arith, length_push ss s, length_unpacked count memory))
     (short_push ss s sh l)
-
-joined_append : (xs ys : Strings) → flat_map packed (xs ++ ys) ≡ flat_map packed xs ++ flat_map packed ys
-joined_append [] ys = refl
-joined_append (x ∷ xs) ys = ap (λ z. packed x ++ z) (joined_append xs ys) ∙ sym (append_assoc (packed x) (flat_map packed xs) (flat_map packed ys))
 
 joined_at : (ss : Strings) (k : ℕ) → k < length ss → flat_map packed ss ≡ flat_map packed (take k ss) ++ (packed (get_or ss k []) ++ flat_map packed (drop (suc k) ss))
 joined_at [] k lt = absurd (omega arith)
@@ -181,7 +182,7 @@ module _ (m : List ℕ) (used : ℕ) (ss : Strings) (w : take used m ≡ flat_ma
 
   pub next : bulk (take (k + 1) ss) ≡ length front + (length str + 2)
   next =
-      ap (λ x. length (flat_map packed x)) (take_more ss k [] lt) ∙ ap length (joined_append (take k ss) (str ∷ []))
+      ap (λ x. length (flat_map packed x)) (take_more ss k [] lt) ∙ ap length (flat_map-append packed (take k ss) (str ∷ []))
       ∙ omega (arith, length-append front (packed str ++ []), length-append str [])
 
   pub holding_removed : (m' : List ℕ) (count : ℕ) → Short ss → count ≡ length ss - 1
@@ -200,7 +201,7 @@ module _ (m : List ℕ) (used : ℕ) (ss : Strings) (w : take used m ≡ flat_ma
       ∙ ap (λ x. x ++ take (length back) src) before
       ∙ ap (λ x. front ++ take (length back) x) behind
       ∙ ap (λ x. front ++ x) (take_at back (drop used m) (length back) refl)
-      ∙ sym (joined_append (take k ss) (drop (suc k) ss)))
+      ∙ sym (flat_map-append packed (take k ss) (drop (suc k) ss)))
       (omega (arith, total, ap length e', length-paste m (length front) src (length back) (omega (arith, total)) in_src))
       (ap (λ x. drop x m') t ∙ ap (drop (length front + length back)) e' ∙ drop-paste m (length front) src (length back) in_m in_src ∙ ap (λ x. drop x m) (sym t))
       (omega (arith, length-remove ss k lt))

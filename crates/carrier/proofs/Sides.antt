@@ -15,7 +15,7 @@ both P Responder a b Responder = a
 pub no_gain_same : (before after : Strings) → after ≡ before → NoGain before after
 no_gain_same before after e t m = subst (λ (x : Strings). Memᴰ t x) e m
 
-pub mem_get_d : (ss : Strings) (k : ℕ) → k < length ss → Memᴰ (get_or ss k []) ss
-mem_get_d [] k lt = absurd (omega arith)
-mem_get_d (s ∷ ss) zero lt = Memᴰ.head refl
-mem_get_d (s ∷ ss) (suc k) lt = Memᴰ.tail (mem_get_d ss k (omega arith))
+pub mem_get_or : (ss : Strings) (k : ℕ) → k < length ss → Memᴰ (get_or ss k []) ss
+mem_get_or [] k lt = absurd (omega arith)
+mem_get_or (s ∷ ss) zero lt = Memᴰ.head refl
+mem_get_or (s ∷ ss) (suc k) lt = Memᴰ.tail (mem_get_or ss k (omega arith))

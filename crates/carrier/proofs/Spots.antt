@@ -1,5 +1,5 @@
 -- Where a queue's strings lie.
-use Rattle.std.proofs.Common.{◌≡◌, ℕ, ◌+◌, ◌-◌, ◌*◌, ◌<◌, ◌≤◌, List, [], length, get_or, take, drop, vec_items, sym, ap, ◌∙◌, subst, arith}
+use Rattle.std.proofs.Common.{◌≡◌, ℕ, ◌+◌, ◌-◌, ◌*◌, ◌<◌, ◌≤◌, List, [], length, get_or, take, drop, vec_items, subst, arith}
 use Rattle.carrier.specs.declared.queue.Queue.{Queue}
 use Rattle.carrier.specs.Packing.{bulk}
 use Rattle.carrier.specs.Held.{held}
@@ -23,15 +23,14 @@ spot q k lt =
       next = next (vec_items q.memory) q.used (held q) q.whole le k lt;
     }
 
-pub removing : (q : Queue) (k start len : ℕ) (m' : List ℕ) → k < length (held q) → start ≡ bulk (take k (held q)) → len ≡ length (get_or (held q) k [])
-    → m' ≡ paste (vec_items q.memory) start (drop (start + (len + 2)) (vec_items q.memory)) (q.used - (start + (len + 2)))
-    → Holding (vec_items q.memory) m' (q.used - (len + 2)) (q.count - 1) (remove (held q) k)
-removing q k start len m' lt es el e =
+pub removing : (q : Queue) (k start end : ℕ) (m' : List ℕ) → k < length (held q) → start ≡ bulk (take k (held q)) → end ≡ start + (length (get_or (held q) k []) + 2)
+    → m' ≡ paste (vec_items q.memory) start (drop end (vec_items q.memory)) (q.used - end) → Holding (vec_items q.memory) m' (q.used - (end - start)) (q.count - 1) (remove (held q) k)
+removing q k start end m' lt es ee e =
     let m : List ℕ = vec_items q.memory in
     let p : ℕ = bulk (take k (held q)) in
     let n : ℕ = length (get_or (held q) k []) in
-    let e' : m' ≡ paste m p (drop (p + (n + 2)) m) (q.used - (p + (n + 2))) =
-    e ∙ ap (λ x. paste m x (drop (x + (len + 2)) m) (q.used - (x + (len + 2)))) es ∙ ap (λ x. paste m p (drop (p + (x + 2)) m) (q.used - (p + (x + 2)))) el in
+    let e' : m' ≡ paste m p (drop (p + (n + 2)) m) (q.used - (p + (n + 2))) = cc in
+    let size : n + 2 ≡ end - start = omega arith in
     let h : Holding m m' (q.used - (n + 2)) (q.count - 1) (remove (held q) k) =
     holding_removed m q.used (held q) q.whole (omega arith) k lt m' (q.count - 1) q.short (omega (arith, length_unpacked q.count m)) e' in
-    subst (λ (x : ℕ). Holding m m' (q.used - (x + 2)) (q.count - 1) (remove (held q) k)) (sym el) h
+    subst (λ (x : ℕ). Holding m m' (q.used - x) (q.count - 1) (remove (held q) k)) size h

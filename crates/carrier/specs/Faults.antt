@@ -1,16 +1,16 @@
 -- How a fault wire chooses what comes out.
-use Rattle.std.specs.Prelude.{◌≡◌, ℕ, false, cond, List, [], ◌∷◌, length, drop, vec_items, Option, Result, nat_le}
+use Rattle.std.specs.Prelude.{◌≡◌, ℕ, false, cond, List, [], ◌∷◌, length, drop, Option, Result, nat_le}
 use Rattle.terms.specs.declared.role.Role.{Role}
 use Rattle.terms.specs.declared.refusal.Refusal.{Refusal}
 use Rattle.carrier.specs.declared.Keeping.{Keeping}
-use Rattle.carrier.specs.declared.fault.Choice.{Choice}
+use Rattle.carrier.specs.declared.choice.Choice.{Choice}
 use Rattle.carrier.specs.declared.fault.FaultWire.{FaultWire}
 use Rattle.carrier.specs.Rules.{greatest_length}
 use Rattle.carrier.specs.Wires.{strings_at, place_of, WirePut, WireFetch}
 
 -- the choices that are not used up
 abbrev pub to_come : FaultWire → List Choice
-to_come w = drop w.next (vec_items w.choices)
+to_come w = w.choices.items
 
 -- the choice for the next fetch; with none left, the oldest string, which does not stay
 abbrev pub chosen_next : List Choice → Choice

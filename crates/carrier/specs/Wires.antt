@@ -6,6 +6,7 @@ use Rattle.terms.specs.declared.role.Role.TheVariants.{Initiator, Responder}
 use Rattle.terms.specs.declared.refusal.Refusal.{Refusal}
 use Rattle.terms.specs.declared.refusal.Refusal.TheVariants.{StringTooLong, BufferTooShort}
 use Rattle.terms.specs.Roles.{far}
+use Rattle.terms.specs.Sides.{at}
 use Rattle.carrier.specs.declared.Keeping.{Keeping}
 use Rattle.carrier.specs.declared.Keeping.TheVariants.{Kept, NotKept}
 use Rattle.carrier.specs.declared.store.Store.{Store}
@@ -15,18 +16,15 @@ use Rattle.carrier.specs.Held.{held, contents, size}
 
 -- the strings held for a side, the oldest first
 abbrev pub strings_at : Store → Role → Strings
-strings_at t Initiator = held t.initiator
-strings_at t Responder = held t.responder
+strings_at t side = held (at t.queues side)
 
 -- the bytes of a side's memory
 abbrev pub memory_at : Store → Role → List ℕ
-memory_at t Initiator = contents t.initiator
-memory_at t Responder = contents t.responder
+memory_at t side = contents (at t.queues side)
 
 -- how many bytes a side's memory has
 abbrev pub room_at : Store → Role → ℕ
-room_at t Initiator = size t.initiator
-room_at t Responder = size t.responder
+room_at t side = size (at t.queues side)
 
 -- a wire as a carrier: what it holds for a side may come out there
 abbrev pub wire_meaning : Store → Meaning

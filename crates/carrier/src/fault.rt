@@ -1,28 +1,23 @@
 // A wire that loses, delays, reorders and repeats strings as a list of choices tells it to.
-ghost use Rattle.std.specs.Prelude.{◌≡◌, drop, IfOk};
+ghost use Rattle.std.specs.Prelude.{◌≡◌, IfOk};
 ghost use Rattle.carrier.specs.Wires.{wire_meaning, Fresh};
-ghost use Rattle.carrier.specs.Faults.{FaultPut, FaultFetch, to_come, chosen_next};
+ghost use Rattle.carrier.specs.Faults.{FaultPut, FaultFetch, to_come};
 ghost use Rattle.std.proofs.Common.{rules};
 
+pub use crate::choice::Choice;
+use crate::choice::OLDEST;
 use crate::store::Store;
 use crate::{Carrier, GREATEST_LENGTH, Keeping};
 use std::alloc::{AllocError, Global};
+use std::collections::VecDeque;
 use terms::refusal::Refusal;
 use terms::role::Role;
-
-// Which held string a fetch hands out, 1 being the oldest, and whether it stays. 0 or a number too large hands out none.
-#[derive(Clone, Copy)]
-pub struct Choice {
-    pub number: usize,
-    pub stays: bool,
-}
 
 // One choice serves each fetch that is not refused, at either side. With none left it acts as a `FifoWire`.
 #[derive(Drop)]
 pub struct FaultWire {
     store: Store,
-    choices: Vec<Choice>,
-    next: usize,
+    choices: VecDeque<Choice>,
 }
 
 impl FaultWire {
@@ -37,33 +32,8 @@ impl FaultWire {
     {
         Ok(FaultWire {
             store: Store::new(heap, initiator, responder)?,
-            choices,
-            next: 0,
+            choices: VecDeque::from(choices),
         })
-    }
-
-    // The choice for the next fetch.
-    fn choice(&self) -> Choice
-        ensures { result ≡ chosen_next (to_come self.now) }
-    {
-        if self.next >= self.choices.len() {
-            return Choice {
-                number: 1,
-                stays: false,
-            };
-        }
-        let choice = self.choices[self.next];
-        choice
-    }
-
-    // Goes on to the choice after it.
-    fn use_up(&mut self)
-        ensures rest { to_come self.new ≡ drop 1 (to_come self.old) }
-        ensures store { self.new.store ≡ self.old.store }
-    {
-        if self.next < self.choices.len() {
-            self.next += 1;
-        }
     }
 }
 
@@ -85,9 +55,9 @@ impl Carrier for FaultWire {
     }
 
     fn fetch(&mut self, at: Role, buf: &mut [u8]) -> Result<Option<usize>, Refusal> {
-        let choice = self.choice();
-        let fetched = self.store.fetch(at, choice.number, choice.stays, buf)?;
-        self.use_up();
+        let choice = self.choices.front().copied().unwrap_or(OLDEST);
+        let fetched = self.store.fetch(at, choice, buf)?;
+        self.choices.pop_front();
         Ok(fetched)
     }
 }

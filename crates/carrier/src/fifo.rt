@@ -3,6 +3,7 @@ ghost use Rattle.std.specs.Prelude.{◌≡◌, IfOk};
 ghost use Rattle.carrier.specs.Wires.{wire_meaning, Fresh, WirePut, FifoFetch};
 ghost use Rattle.std.proofs.Common.{rules};
 
+use crate::choice::OLDEST;
 use crate::store::Store;
 use crate::{Carrier, GREATEST_LENGTH, Keeping};
 use std::alloc::{AllocError, Global};
@@ -43,6 +44,6 @@ impl Carrier for FifoWire {
     }
 
     fn fetch(&mut self, at: Role, buf: &mut [u8]) -> Result<Option<usize>, Refusal> {
-        self.store.fetch(at, 1, false, buf)
+        self.store.fetch(at, OLDEST, buf)
     }
 }

@@ -8,6 +8,7 @@ ghost use Rattle.terms.specs.declared.role.Role.{Role};
 ghost use Rattle.carrier.specs.declared.Keeping.{Keeping};
 ghost use Rattle.carrier.specs.Rules.{Meaning, PutRules, FetchRules, greatest_length};
 
+mod choice;
 pub mod cut;
 pub mod fault;
 pub mod fifo;

@@ -4,6 +4,7 @@ ghost use Rattle.carrier.specs.Packing.{Whole, Short, unpacked};
 
 mod methods;
 
+// A carrier allocates nothing after it is made, so a queue stays within one memory, of which it tells what is used.
 #[derive(Drop)]
 pub struct Queue {
     memory: Vec<u8>,
