@@ -9,7 +9,7 @@ use crate::buffers::Buffers;
 use crate::seat::Seat;
 use carrier::{Carrier, GREATEST_LENGTH};
 use ends::answer::{Answer, Place};
-use ends::opening::InitiatorNumbers;
+use ends::opening::{InitiatorNumbers, ResponderNumbers};
 use ends::session::SessionNumber;
 use params::call::Call;
 use params::sheet::Sheet;
@@ -59,10 +59,15 @@ impl Seats {
     {
         let Numbers { ra, rb, rc } = numbers;
         let mut out = [0u8; LONGEST_FRAME];
-        let numbers = InitiatorNumbers { rb, rc };
-        let initiator = Seat::initiator(sheet.initiator, numbers, carrier, &mut out)?;
+        let initiator = Seat::open(
+            sheet.initiator,
+            InitiatorNumbers { rb, rc },
+            carrier,
+            &mut out,
+        )?;
         // a refusal is of the carrier or the buffer, and the first opening had the same two
-        let Ok(responder) = Seat::responder(sheet.responder, ra, carrier, &mut out) else {
+        let Ok(responder) = Seat::open(sheet.responder, ResponderNumbers { ra }, carrier, &mut out)
+        else {
             unreachable()
         };
         Ok(Seats(Sides {

@@ -1,7 +1,5 @@
 // An end on its side of a carrier, beside its stop token.
 ghost use Rattle.std.specs.Prelude.{◌≡◌, true, length};
-ghost use Rattle.terms.specs.declared.role.Role.TheVariants.{Initiator, Responder};
-ghost use Rattle.states.specs.declared.state.State.TheVariants.{WaitAu2, Listen};
 ghost use Rattle.ends.specs.Ends.{end_value};
 ghost use Rattle.link.specs.Seats.{seat_value, OpensSeat, Acts, StopActs};
 ghost use Rattle.link.specs.Tells.{LetGo};
@@ -10,8 +8,8 @@ use crate::buffers::Buffers;
 use carrier::Carrier;
 use ends::answer::Answer;
 use ends::end::End;
-use ends::opening::{InitiatorNumbers, Opened};
-use ends::session::{SessionNumber, StopToken};
+use ends::opening::Opened;
+use ends::session::{SessionNumbers, StopToken};
 use params::call::Action;
 use params::params::Params;
 use terms::refusal::Refusal;
@@ -37,29 +35,16 @@ impl Seat {
         }
     }
 
-    pub(crate) fn initiator<C: Carrier>(
+    // An end of the party whose numbers these are.
+    pub(crate) fn open<C: Carrier, N: SessionNumbers>(
         params: Params,
-        numbers: InitiatorNumbers,
+        numbers: N,
         carrier: &mut C,
         out: &mut [u8],
     ) -> Result<Seat, Refusal>
-        ensures { OpensSeat params.values Initiator (WaitAu2 numbers.rb.value numbers.rc.value) (C.meaning carrier.old) (C.meaning carrier.new) out.old out.new result }
+        ensures { OpensSeat params.values N.role (N.first numbers) (C.meaning carrier.old) (C.meaning carrier.new) out.old out.new result }
     {
-        match End::open_initiator(params, numbers, carrier, out) {
-            Ok(opened) => Ok(Seat::new(opened)),
-            Err(closed) => Err(closed.refusal),
-        }
-    }
-
-    pub(crate) fn responder<C: Carrier>(
-        params: Params,
-        ra: SessionNumber,
-        carrier: &mut C,
-        out: &mut [u8],
-    ) -> Result<Seat, Refusal>
-        ensures { OpensSeat params.values Responder (Listen ra.value) (C.meaning carrier.old) (C.meaning carrier.new) out.old out.new result }
-    {
-        match End::open_responder(params, ra, carrier, out) {
+        match End::open(params, numbers, carrier, out) {
             Ok(opened) => Ok(Seat::new(opened)),
             Err(closed) => Err(closed.refusal),
         }
@@ -104,11 +89,8 @@ impl Seat {
         ensures { LetGo (seat_value self) (C.meaning carrier.old) (C.meaning carrier.new) }
     {
         let Seat { mut end, token } = self;
-        match token {
-            Some(token) => {
-                let _ = end.stop(carrier, token);
-            }
-            None => {}
+        if let Some(token) = token {
+            let _ = end.stop(carrier, token);
         }
     }
 }

@@ -4,5 +4,5 @@ use Rattle.link.proofs.Playing.{both_opened}
 pub returns : goal.returns
 returns g c =
     both_opened c.args.sheet.now c.args.numbers
-    (g.C.Carrier.meaning c.args.carrier.now) (g.C.Carrier.meaning c.initiator.new.carrier) (g.C.Carrier.meaning c.responder.new.carrier)
-    _ c.initiator.new.out c.responder.new.out _ c.in_ok-initiator.ensures c.in-Ok.ensures
+    (g.C.Carrier.meaning c.args.carrier.now) (g.C.Carrier.meaning c.open.new.carrier) (g.C.Carrier.meaning c.open-2.new.carrier)
+    _ c.open.new.out c.open-2.new.out _ c.in_ok-initiator.ensures c.in-Ok.ensures
