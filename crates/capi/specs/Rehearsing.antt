@@ -1,32 +1,22 @@
 -- What a rehearsal leaves in C's buffer, and what it answers.
-use Rattle.std.specs.Prelude.{◌≡◌, ℕ, cond, ◌⊎◌, List, length, ℤ, pos, negsuc, nat_le}
-use Rattle.terms.specs.Buffers.{put_after}
-use Rattle.texts.specs.declared.fault.FileFault.{FileFault}
-use Rattle.params.specs.Scripts.{read_script}
-use Rattle.params.specs.Sheets.{read_sheet}
-use Rattle.rehearsal.specs.Faults.{fault_line}
-use Rattle.rehearsal.specs.Rehearsals.{Rehearsed, Faulty}
+use Rattle.std.specs.Prelude.{◌≡◌, ℕ, ◌⊎◌, List, ℤ, pos, neg_ℤ, negsuc, Ok, Err, Result}
+use Rattle.terms.specs.declared.refusal.Refusal.{Refusal}
+use Rattle.terms.specs.Buffers.{put_answer, put_after}
+use Rattle.terms.specs.Refusals.{refusal_number}
+use Rattle.rehearsal.specs.Rehearsals.{Prints}
 
--- -1 and -7
+-- -1, which is no refusal's number below zero
 abbrev pub no_memory : ℤ
 no_memory = negsuc 0
 
-abbrev pub too_short : ℤ
-too_short = negsuc 6
+-- a length as it is, or the refusal's number below zero
+abbrev pub answer_of : Result ℕ Refusal → ℤ
+answer_of (Ok n) = pos n
+answer_of (Err e) = neg_ℤ (pos (refusal_number e))
 
--- the line of a fault that the files have
-pub record FaultShown (sheet script text : List ℕ) : Type 0 where
-  pub fault : FileFault
-  pub faulty : Faulty (read_sheet sheet) (read_script script) fault
-  pub line : text ≡ fault_line fault
-
--- what a rehearsal of the two files may print: a listing, or the line of their fault
-abbrev pub Prints : List ℕ → List ℕ → List ℕ → Type 0
-Prints sheet script text = Rehearsed sheet script text ⊎ FaultShown sheet script text
-
--- the length of a text that is laid into the buffer, if that has room for it
+-- the length of a text that is laid into the buffer, if that has room for it; else -7
 abbrev pub laid_answer : List ℕ → List ℕ → ℤ
-laid_answer text out = cond (nat_le (length text) (length out)) (pos (length text)) too_short
+laid_answer text out = answer_of (put_answer text out)
 
 -- a text that may be printed is laid into the buffer, or the buffer is too short for it and stays
 pub record Laid (sheet script out after : List ℕ) (answer : ℤ) : Type 0 where

@@ -1,25 +1,22 @@
 // Steady work, to be timed. Of what it answers only bounds are proved.
-ghost use Rattle.std.specs.Prelude.{◌*◌, ◌≤◌, length, pos, negsuc, ◌≤ℤ◌};
-ghost use Rattle.ends.specs.Puts.{longest_frame};
+ghost use Rattle.std.specs.Prelude.{◌*◌, ◌≤◌, IfOk, pos, negsuc, ◌≤ℤ◌};
 
 use crate::NO_MEMORY;
 use carrier::fifo::FifoWire;
 use carrier::{Carrier, GREATEST_LENGTH};
 use ends::end::End;
-use ends::opening::{InitiatorNumbers, Opened};
-use ends::session::SessionNumber;
+use ends::opening::{InitiatorNumbers, Opened, ResponderNumbers};
+use ends::session::{SessionNumber, SessionNumbers};
 use params::params::Params;
 use params::sheet::Sheet;
 use params::values::{Milliseconds, Values};
-use std::alloc::Global;
+use std::alloc::{AllocError, Global};
 use terms::counters::{ExecutionCycle, Ticks};
 use terms::identifier::Identifier;
+use terms::lengths::{LONGEST_FRAME, LONGEST_MESSAGE};
 use terms::role::Role;
+use terms::sides::Sides;
 
-// The longest frame, which an output buffer holds.
-const LONGEST_FRAME: usize = 1041;
-
-const LONGEST_MESSAGE: usize = 1023;
 // The memory of the wire between two ends, for what waits for either.
 const WIRE: usize = 8192;
 
@@ -58,124 +55,131 @@ fn sheet() -> Sheet {
     let Ok(responder) = Params::new(across) else {
         unreachable()
     };
-    Sheet {
+    Sides {
         initiator,
         responder,
     }
 }
 
-fn open_initiator(params: Params, wire: &mut FifoWire, out: &mut [u8]) -> Opened
-    requires { longest_frame ≤ length out.old }
-{
-    let numbers = InitiatorNumbers {
-        rb: SessionNumber::new(1),
-        rc: SessionNumber::new(2),
-    };
-    match End::open_initiator(params, numbers, wire, out) {
-        Ok(opened) => opened,
-        Err(_) => unreachable(),
-    }
+// A wire, and the buffers of those who use it.
+#[derive(Drop)]
+struct Desk {
+    wire: FifoWire,
+    fetched: [u8; GREATEST_LENGTH],
+    out: [u8; LONGEST_FRAME],
 }
 
-fn open_responder(params: Params, wire: &mut FifoWire, out: &mut [u8]) -> Opened
-    requires { longest_frame ≤ length out.old }
-{
-    match End::open_responder(params, SessionNumber::new(3), wire, out) {
-        Ok(opened) => opened,
-        Err(_) => unreachable(),
-    }
-}
-
-fn stop(opened: Opened, wire: &mut FifoWire) {
-    let Opened {
-        mut end,
-        token,
-        answer: _,
-    } = opened;
-    let _ = end.stop(wire, token);
-}
-
-// Both ends, each beside the token that its stop takes back.
-struct Ends {
-    initiator: Opened,
-    responder: Opened,
-}
-
-impl Ends {
-    // Three fetches each, one after another: after the opening, both are up.
-    fn come_up(&mut self, wire: &mut FifoWire, buf: &mut [u8], out: &mut [u8]) {
-        for _ in 0..3 {
-            let _ = self.responder.end.fetch(wire, buf, out);
-            let _ = self.initiator.end.fetch(wire, buf, out);
-        }
+impl Desk {
+    // A desk whose wire has so many bytes of memory for what waits for either side.
+    fn new(heap: Global, initiator: usize, responder: usize) -> Result<Desk, AllocError> {
+        Ok(Desk {
+            wire: FifoWire::new(heap, initiator, responder)?,
+            fetched: [0; GREATEST_LENGTH],
+            out: [0; LONGEST_FRAME],
+        })
     }
 
-    // Both tick, the initiator with the message, and both fetch.
-    fn round(&mut self, wire: &mut FifoWire, message: &[u8], buf: &mut [u8], out: &mut [u8]) -> u64
+    fn open<N: SessionNumbers>(&mut self, params: Params, numbers: N) -> Opened {
+        let Ok(opened) = End::open(params, numbers, &mut self.wire, &mut self.out) else {
+            unreachable()
+        };
+        opened
+    }
+
+    fn stop(&mut self, opened: Opened) {
+        let Opened {
+            mut end,
+            token,
+            answer: _,
+        } = opened;
+        let _ = end.stop(&mut self.wire, token);
+    }
+
+    fn tick(&mut self, end: &mut End, message: &[u8]) {
+        let _ = end.tick(&mut self.wire, message, &mut self.out);
+    }
+
+    // One fetch: how many messages it delivered.
+    fn fetch(&mut self, end: &mut End) -> u64
+        ensures { result ≤ 1 }
+    {
+        let answer = end.fetch(&mut self.wire, &mut self.fetched, &mut self.out);
+        if answer.delivered.is_some() { 1 } else { 0 }
+    }
+
+    // Fetches until nothing comes: a round brings an end its far end's frame and at most one answer.
+    fn fetches(&mut self, end: &mut End) -> u64
         ensures { result ≤ 3 }
     {
-        let _ = self.initiator.end.tick(wire, message, out);
-        let _ = self.responder.end.tick(wire, &[], out);
-        let _ = fetches(&mut self.initiator.end, wire, buf, out);
-        fetches(&mut self.responder.end, wire, buf, out)
+        self.fetch(end) + self.fetch(end) + self.fetch(end)
     }
 
-    // So many rounds: how many messages the responder was delivered.
-    fn rounds(
-        &mut self,
-        wire: &mut FifoWire,
-        message: &[u8],
-        buf: &mut [u8],
-        out: &mut [u8],
-        rounds: u32,
-    ) -> u64
-        ensures { result ≤ 3 * rounds }
-    {
-        let mut delivered = 0;
-        for round in 0..rounds {
-            delivered += self.round(wire, message, buf, out);
-        }
-        delivered
+    // Puts one string and fetches one; says whether one came.
+    fn turn(&mut self, string: &[u8]) -> bool {
+        let _ = self.wire.put(Role::Initiator, string);
+        matches!(self.wire.fetch(Role::Responder, &mut self.fetched), Ok(Some(_)))
     }
 }
 
-// One fetch: how many messages it delivered.
-fn fetch(end: &mut End, wire: &mut FifoWire, buf: &mut [u8], out: &mut [u8]) -> u64
-    ensures { result ≤ 1 }
-{
-    match end.fetch(wire, buf, out).delivered {
-        Some(_) => 1,
-        None => 0,
+// Three fetches each, one after another: after the opening, both are up.
+fn come_up(desk: &mut Desk, ends: &mut Sides<Opened>) {
+    for _ in 0..3 {
+        let _ = desk.fetch(&mut ends.responder.end);
+        let _ = desk.fetch(&mut ends.initiator.end);
     }
 }
 
-// Fetches until nothing comes: a round brings an end its far end's frame and at most one answer.
-fn fetches(end: &mut End, wire: &mut FifoWire, buf: &mut [u8], out: &mut [u8]) -> u64
+// Both tick, the initiator with the message, and both fetch: how many messages the responder was delivered.
+fn round(desk: &mut Desk, ends: &mut Sides<Opened>, message: &[u8]) -> u64
     ensures { result ≤ 3 }
 {
-    fetch(end, wire, buf, out) + fetch(end, wire, buf, out) + fetch(end, wire, buf, out)
+    desk.tick(&mut ends.initiator.end, message);
+    desk.tick(&mut ends.responder.end, &[]);
+    let _ = desk.fetches(&mut ends.initiator.end);
+    desk.fetches(&mut ends.responder.end)
+}
+
+// So many rounds.
+fn rounds(desk: &mut Desk, ends: &mut Sides<Opened>, message: &[u8], rounds: u32) -> u64
+    ensures { result ≤ 3 * rounds }
+{
+    let mut delivered = 0;
+    for _ in 0..rounds {
+        delivered += round(desk, ends, message);
+    }
+    delivered
 }
 
 // Opens two ends on a new wire, serves them so many rounds with the message, and stops both.
-fn serve(wire: &mut FifoWire, message: &[u8], rounds: u32) -> u64
-    ensures { result ≤ 3 * rounds }
+fn serve(heap: Global, message: &[u8], times: u32) -> Result<u64, AllocError>
+    ensures { IfOk result (λ delivered. delivered ≤ 3 * times) }
 {
-    let mut buf = [0u8; GREATEST_LENGTH];
-    let mut out = [0u8; LONGEST_FRAME];
+    let mut desk = Desk::new(heap, WIRE, WIRE)?;
     let sheet = sheet();
-    let mut ends = Ends {
-        initiator: open_initiator(sheet.initiator, wire, &mut out),
-        responder: open_responder(sheet.responder, wire, &mut out),
+    let mut ends = Sides {
+        initiator: desk.open(
+            sheet.initiator,
+            InitiatorNumbers {
+                rb: SessionNumber::new(1),
+                rc: SessionNumber::new(2),
+            },
+        ),
+        responder: desk.open(
+            sheet.responder,
+            ResponderNumbers {
+                ra: SessionNumber::new(3),
+            },
+        ),
     };
-    ends.come_up(wire, &mut buf, &mut out);
-    let delivered = ends.rounds(wire, message, &mut buf, &mut out, rounds);
-    let Ends {
+    come_up(&mut desk, &mut ends);
+    let delivered = rounds(&mut desk, &mut ends, message, times);
+    let Sides {
         initiator,
         responder,
     } = ends;
-    stop(initiator, wire);
-    stop(responder, wire);
-    delivered
+    desk.stop(initiator);
+    desk.stop(responder);
+    Ok(delivered)
 }
 
 // A message longer than any that a frame takes is cut to the longest.
@@ -184,33 +188,24 @@ pub extern "C" fn falldate_steady_rounds(heap: Global, rounds: u32, size: u32) -
     ensures low { negsuc 0 ≤ℤ result }
     ensures high { result ≤ℤ pos (3 * rounds) }
 {
-    let Ok(mut wire) = FifoWire::new(heap, WIRE, WIRE) else {
-        return NO_MEMORY;
-    };
     let message = [0x55u8; LONGEST_MESSAGE];
     let size = (size as usize).min(LONGEST_MESSAGE);
-    serve(&mut wire, &message[0..size], rounds) as i64
-}
-
-// Puts one string and fetches one; says whether one came.
-fn turn(wire: &mut FifoWire, string: &[u8], buf: &mut [u8]) -> bool {
-    let _ = wire.put(Role::Initiator, string);
-    match wire.fetch(Role::Responder, buf) {
-        Ok(Some(_)) => true,
-        _ => false,
+    match serve(heap, &message[..size], rounds) {
+        Ok(delivered) => delivered as i64,
+        Err(_) => NO_MEMORY,
     }
 }
 
 // How many of so many turns fetched a string, where so many strings are held before.
-fn turns(wire: &mut FifoWire, string: &[u8], buf: &mut [u8], held: u32, rounds: u32) -> u32
+fn turns(desk: &mut Desk, string: &[u8], held: u32, rounds: u32) -> u32
     ensures { result ≤ rounds }
 {
     for _ in 0..held {
-        let _ = wire.put(Role::Initiator, string);
+        let _ = desk.wire.put(Role::Initiator, string);
     }
     let mut came = 0;
-    for round in 0..rounds {
-        if turn(wire, string, buf) {
+    for _ in 0..rounds {
+        if desk.turn(string) {
             came += 1;
         }
     }
@@ -225,10 +220,9 @@ pub extern "C" fn falldate_wire_rounds(heap: Global, held: u32, size: u32, round
 {
     let size = (size as usize).min(GREATEST_LENGTH);
     let room = (held as usize + 1) * (size + 2);
-    let Ok(mut wire) = FifoWire::new(heap, 0, room) else {
-        return NO_MEMORY;
-    };
     let string = [0x55u8; GREATEST_LENGTH];
-    let mut buf = [0u8; GREATEST_LENGTH];
-    i64::from(turns(&mut wire, &string[0..size], &mut buf, held, rounds))
+    match Desk::new(heap, 0, room) {
+        Ok(mut desk) => i64::from(turns(&mut desk, &string[..size], held, rounds)),
+        Err(_) => NO_MEMORY,
+    }
 }

@@ -54,7 +54,7 @@ pub extern "C" fn falldate_packet_type(bytes: &[u8]) -> i32
     ensures { result ≡ packet_answer (read_packet bytes.now) }
 {
     match Packet::read(bytes) {
-        Ok(packet) => i32::from(PacketType::of(packet.frame).code()),
+        Ok(packet) => i32::from(u8::from(PacketType::of(packet.frame))),
         Err(refusal) => refused(refusal),
     }
 }

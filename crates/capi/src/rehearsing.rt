@@ -1,37 +1,33 @@
 // A rehearsal whose text goes to the caller's buffer.
-ghost use Rattle.std.specs.Prelude.{◌≡◌, IfOk, string_bytes};
-ghost use Rattle.terms.specs.Buffers.{put_after};
-ghost use Rattle.capi.specs.Rehearsing.{laid_answer, Prints, Rehearsing};
+ghost use Rattle.std.specs.Prelude.{◌≡◌};
+ghost use Rattle.terms.specs.Buffers.{put_answer, put_after};
+ghost use Rattle.capi.specs.Rehearsing.{answer_of, Rehearsing};
 
 use crate::NO_MEMORY;
-use rehearsal::faults::FaultLine;
-use rehearsal::rehearsing::{RehearsalError, rehearse};
+use rehearsal::rehearsing::printed;
 use std::alloc::Global;
+use terms::refusal::Refusal;
 
-// Below zero, the number of the refusal of a buffer that is too short.
-const TOO_SHORT: i64 = -7;
-
-// Lays the text at the start of `out`, if that has room for all of it.
-fn lay(text: &[u8], out: &mut [u8]) -> i64
-    ensures answer { result ≡ laid_answer text.now out.old }
+// Lays the text at the start of `out`, if that has room for all of it, and says how long it is.
+fn lay(text: &[u8], out: &mut [u8]) -> Result<usize, Refusal>
+    ensures answer { result ≡ put_answer text.now out.old }
     ensures after { out.new ≡ put_after text.now out.old }
 {
     let n = text.len();
     if out.len() < n {
-        return TOO_SHORT;
+        return Err(Refusal::BufferTooShort);
     }
-    out[0..n].copy_from_slice(text);
-    n as i64
+    out[..n].copy_from_slice(text);
+    Ok(n)
 }
 
-// What a rehearsal prints: its listing, or the line of the fault.
-fn printed(heap: Global, sheet: &[u8], script: &[u8]) -> Result<String, RehearsalError>
-    ensures { IfOk result (λ t. Prints sheet.now script.now (string_bytes t)) }
+// A length as it is, or the refusal's number below zero.
+fn answer(laid: Result<usize, Refusal>) -> i64
+    ensures { result ≡ answer_of laid }
 {
-    match rehearse(heap, sheet, script) {
-        Ok(listing) => Ok(listing),
-        Err(RehearsalError::Fault(fault)) => Ok(format!(in heap; "{}", FaultLine(fault))?),
-        Err(RehearsalError::NoMemory) => Err(RehearsalError::NoMemory),
+    match laid {
+        Ok(n) => n as i64,
+        Err(refusal) => -i64::from(u8::from(refusal)),
     }
 }
 
@@ -45,7 +41,7 @@ pub extern "C" fn falldate_rehearse(
     ensures { Rehearsing sheet.now script.now out.old out.new result }
 {
     match printed(heap, sheet, script) {
-        Ok(text) => lay(text.as_bytes(), out),
+        Ok(text) => answer(lay(text.as_bytes(), out)),
         Err(_) => NO_MEMORY,
     }
 }

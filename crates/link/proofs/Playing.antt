@@ -3,8 +3,8 @@ use Rattle.std.proofs.Common.{◌≡◌, ℕ, List, [], ◌∷◌, ◌++◌, map
 use Rattle.std.proofs.lemmas.List.{map_push}
 use Rattle.terms.specs.declared.role.Role.TheVariants.{Initiator, Responder}
 use Rattle.carrier.specs.Rules.{Meaning}
-use Rattle.params.specs.declared.call.Call.{Call}
-use Rattle.params.specs.declared.sheet.Sheet.{Sheet}
+use Rattle.params.specs.Calls.{OwnCall}
+use Rattle.params.specs.Made.{Sheet}
 use Rattle.ends.specs.declared.answer.Answer.{Answer}
 use Rattle.states.specs.declared.state.State.TheVariants.{WaitAu2, Listen}
 use Rattle.ends.specs.Calls.{opening_put}
@@ -26,7 +26,7 @@ played_none {t} = record {
 }
 
 -- one call more
-pub played_more : {t u v : LinkValue} {cs ds : List Call} {log : List Told} {buf : List ℕ} {r : Answer} (c : Call) (got : List ℕ)
+pub played_more : {t u v : LinkValue} {cs ds : List OwnCall} {log : List Told} {buf : List ℕ} {r : Answer} (c : OwnCall) (got : List ℕ)
     → Played t u cs log → Steps c u v buf r → ds ≡ cs ++ (c ∷ []) → got ≡ at_place buf r.delivered
     → Played t v ds (log ++ (record { answer = r; got = got } ∷ []))
 played_more {t} {u} {v} {cs} {ds} {log} {buf} {r} c got p s ec eg = record {
@@ -107,7 +107,7 @@ both_opened sheet n m m₁ m₂ out out₁ out₂ s a b =
     }
 
 -- the openings, the calls, and the last stops
-pub run_made : (sheet : Sheet) (n : Numbers) (m m₁ m₂ m₃ : Meaning) (s s' : Seats) (calls : List Call) (answers : List Told)
+pub run_made : (sheet : Sheet) (n : Numbers) (m m₁ m₂ m₃ : Meaning) (s s' : Seats) (calls : List OwnCall) (answers : List Told)
     → SeatsOpened sheet n m m₁ s → Played (link_value m₁ s) (link_value m₂ s') calls answers → Closed (link_value m₂ s') m₃
     → RunMade sheet n m m₃ calls answers
 run_made sheet n m m₁ m₂ m₃ s s' calls answers o p k =

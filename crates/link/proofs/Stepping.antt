@@ -7,9 +7,8 @@ use Rattle.terms.specs.declared.role.Role.TheVariants.{Initiator, Responder}
 use Rattle.terms.specs.Roles.{far}
 use Rattle.terms.specs.Sides.{at, with_side}
 use Rattle.carrier.specs.Rules.{Meaning, FetchRules}
-use Rattle.params.specs.declared.call.Action.{Action}
 use Rattle.params.specs.declared.call.Action.TheVariants as action
-use Rattle.params.specs.declared.call.Call.{Call}
+use Rattle.params.specs.Calls.{OwnAction, OwnCall}
 use Rattle.ends.specs.declared.answer.Answer.{Answer}
 use Rattle.ends.specs.declared.ways.FetchWay.{FetchWay}
 use Rattle.ends.specs.declared.ways.FetchWay.TheVariants as fetch
@@ -77,7 +76,7 @@ stop_does true s t t' e e' got r k = (stop_put e (out_refusal e.state), (k, refl
 stop_does false s t t' e e' got r k = (None, (k.0, k.1, k.2, refl))
 
 -- a call, with the string that it put and the one that it took
-record Done (s : Role) (a : Action) (t t' : LinkValue) (buf' : List ℕ) (r : Answer) : Type 0 where
+record Done (s : Role) (a : OwnAction) (t t' : LinkValue) (buf' : List ℕ) (r : Answer) : Type 0 where
   put : Option (List ℕ)
   took : Option (List ℕ)
   does : (sheets : Sheets) → Does sheets (moment_of s (deed_of a) r (at_place buf' r.delivered) put took t t') (deed_of a)
@@ -86,7 +85,7 @@ record Done (s : Role) (a : Action) (t t' : LinkValue) (buf' : List ℕ) (r : An
 seated : {o : Option SeatValue} (p : SeatValue) (held : Bool) → o ≡ Some p → p.held ≡ held → o ≡ Some record { end = p.end; held = held }
 seated p held e h = e ∙ ap (λ b. Some record { end = p.end; held = b }) h
 
-done : (s : Role) (a : Action) (t t' : LinkValue) (p p' : SeatValue) (buf buf' out out' : List ℕ) (r : Answer)
+done : (s : Role) (a : OwnAction) (t t' : LinkValue) (p p' : SeatValue) (buf buf' out out' : List ℕ) (r : Answer)
     → seat s t ≡ Some p → seat s t' ≡ Some p' → length buf' ≡ length buf
     → Acts a p p' t.carrier t'.carrier buf buf' out out' r → Done s a t t' buf' r
 done s (action.Tick x) t t' p p' buf buf' out out' r was is len a =
@@ -149,7 +148,7 @@ done s action.Stop t t' p p' buf buf' out out' r was is len a =
       within = subst (Within (length buf')) (sym none) tt;
     }
 
-pub stepped : (c : Call) (s : Role) → c.end ≡ s → (t t' : LinkValue) (p p' : SeatValue) (buf buf' out out' : List ℕ) (r : Answer)
+pub stepped : (c : OwnCall) (s : Role) → c.end ≡ s → (t t' : LinkValue) (p p' : SeatValue) (buf buf' out out' : List ℕ) (r : Answer)
     → seat s t ≡ Some p → seat s t' ≡ Some p' → seat (far s) t' ≡ seat (far s) t → length buf' ≡ length buf
     → Acts c.action p p' t.carrier t'.carrier buf buf' out out' r → Steps c t t' buf' r
 stepped c s h t t' p p' buf buf' out out' r was is other len a =
@@ -162,7 +161,7 @@ stepped c s h t t' p p' buf buf' out out' r was is other len a =
     }
 
 -- the same where the end's seat is one of two
-pub stepped_at : (c : Call) (s : Role) → c.end ≡ s → (m m' : Meaning) (seats : Seats) (x y : Seat) (buf buf' out out' : List ℕ) (r : Answer)
+pub stepped_at : (c : OwnCall) (s : Role) → c.end ≡ s → (m m' : Meaning) (seats : Seats) (x y : Seat) (buf buf' out out' : List ℕ) (r : Answer)
     → x ≡ at seats.0 s → length buf' ≡ length buf
     → Acts c.action (seat_value x) (seat_value y) m m' buf buf' out out' r
     → Steps c (link_value m seats) (link_value m' record { 0 = with_side seats.0 s y }) buf' r

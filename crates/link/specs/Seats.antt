@@ -6,10 +6,9 @@ use Rattle.terms.specs.declared.refusal.Refusal.{Refusal}
 use Rattle.terms.specs.declared.refusal.Refusal.TheVariants.{EndIsOut}
 use Rattle.terms.specs.declared.role.Role.{Role}
 use Rattle.carrier.specs.Rules.{Meaning}
-use Rattle.params.specs.declared.call.Action.{Action}
 use Rattle.params.specs.declared.call.Action.TheVariants as action
-use Rattle.params.specs.declared.call.Call.{Call}
-use Rattle.params.specs.declared.sheet.Sheet.{Sheet}
+use Rattle.params.specs.Calls.{OwnAction, OwnCall}
+use Rattle.params.specs.Made.{Sheet}
 use Rattle.params.specs.declared.values.Values.{Values}
 use Rattle.ends.specs.declared.answer.Answer.{Answer}
 use Rattle.ends.specs.declared.answer.Place.{Place}
@@ -70,7 +69,7 @@ pub record FetchActs (s s' : SeatValue) (m m' : Meaning) (buf buf' out out' : Li
   pub call : Fetches s.end s'.end m m' buf buf' out out' r
   pub held : s'.held ≡ s.held
 
-abbrev pub Acts : Action → SeatValue → SeatValue → Meaning → Meaning → List ℕ → List ℕ → List ℕ → List ℕ → Answer → Type 0
+abbrev pub Acts : OwnAction → SeatValue → SeatValue → Meaning → Meaning → List ℕ → List ℕ → List ℕ → List ℕ → Answer → Type 0
 Acts (action.Tick message) s s' m m' buf buf' out out' r = TickActs (vec_items message) s s' m m' out out' r
 Acts action.Fetch s s' m m' buf buf' out out' r = FetchActs s s' m m' buf buf' out out' r
 Acts action.Stop s s' m m' buf buf' out out' r = StopActs s s' m m' r
@@ -81,11 +80,11 @@ Within n None = Unit {0}
 Within n (Some p) = (p.from ≤ p.to) × (p.to ≤ n)
 
 -- a call on a link is one step of any run, with any two parameter sets
-abbrev pub moment : Call → Answer → List ℕ → Option (List ℕ) → Option (List ℕ) → LinkValue → LinkValue → Moment
+abbrev pub moment : OwnCall → Answer → List ℕ → Option (List ℕ) → Option (List ℕ) → LinkValue → LinkValue → Moment
 moment c r got put took t t' =
     record { role = c.end; deed = deed_of c.action; answer = r; got = got; put = put; took = took; before = t; after = t' }
 
-pub record Steps (c : Call) (t t' : LinkValue) (buf' : List ℕ) (r : Answer) : Type 0 where
+pub record Steps (c : OwnCall) (t t' : LinkValue) (buf' : List ℕ) (r : Answer) : Type 0 where
   pub put : Option (List ℕ)
   pub took : Option (List ℕ)
   pub step : (sheets : Sheets) → Step sheets (moment c r (at_place buf' r.delivered) put took t t')
@@ -109,16 +108,16 @@ OpensSeats sheet numbers m m' (Ok s) = SeatsOpened sheet numbers m m' s
 OpensSeats sheet numbers m m' (Err x) = RunRefused m m' x
 
 -- calls one after another, from t to t': every run to t goes on by them to t'
-pub record Played (t t' : LinkValue) (calls : List Call) (answers : List Told) : Type 0 where
+pub record Played (t t' : LinkValue) (calls : List OwnCall) (answers : List Told) : Type 0 where
   pub on : (sheets : Sheets) (m : Meaning) (asked : List Asked) (before : List Told)
       → RunTo sheets m t asked before → RunTo sheets m t' (asked ++ map asked_of calls) (before ++ answers)
 
 -- for want of memory only the first of them
-pub record Halted (t t' : LinkValue) (calls : List Call) : Type 0 where
+pub record Halted (t t' : LinkValue) (calls : List OwnCall) : Type 0 where
   pub number : ℕ
   pub answers : List Told
   pub played : Played t t' (take number calls) answers
 
-abbrev pub Plays : LinkValue → LinkValue → List Call → Result (Vec Line Global) AllocError → Type 0
+abbrev pub Plays : LinkValue → LinkValue → List OwnCall → Result (Vec Line Global) AllocError → Type 0
 Plays t t' calls (Ok lines) = Played t t' calls (map told_by (vec_items lines))
 Plays t t' calls (Err e) = Halted t t' calls

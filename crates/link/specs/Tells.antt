@@ -6,11 +6,11 @@ use Rattle.terms.specs.declared.failure.Failure.TheVariants.{NoMemory, Cause}
 use Rattle.terms.specs.declared.refusal.Refusal.{Refusal}
 use Rattle.terms.specs.declared.role.Role.{Role}
 use Rattle.terms.specs.declared.role.Role.TheVariants.{Initiator, Responder}
+use Rattle.terms.specs.Sides.{at}
 use Rattle.carrier.specs.Rules.{Meaning}
-use Rattle.params.specs.declared.call.Action.{Action}
 use Rattle.params.specs.declared.call.Action.TheVariants as action
-use Rattle.params.specs.declared.call.Call.{Call}
-use Rattle.params.specs.declared.sheet.Sheet.{Sheet}
+use Rattle.params.specs.Calls.{OwnAction, OwnCall}
+use Rattle.params.specs.Made.{Sheet}
 use Rattle.ends.specs.declared.answer.Answer.{Answer}
 use Rattle.states.specs.declared.state.State.TheVariants.{WaitAu2, Listen}
 use Rattle.ends.specs.Calls.{Stops, opening_refusal}
@@ -23,8 +23,7 @@ use Rattle.link.specs.Runs.{Sheets, SeatValue, LinkValue, Deed, opens, ticks, fe
 
 -- the parameter sets by role
 abbrev pub sheets_of : Sheet → Sheets
-sheets_of s Initiator = s.initiator.values
-sheets_of s Responder = s.responder.values
+sheets_of s role = (at s role).values
 
 -- What is asked:
 
@@ -43,12 +42,12 @@ openings n =
     record { role = Initiator; deed = opens (WaitAu2 n.rb.value n.rc.value) }
     ∷ (record { role = Responder; deed = opens (Listen n.ra.value) } ∷ [])
 
-abbrev pub deed_of : Action → Deed
+abbrev pub deed_of : OwnAction → Deed
 deed_of (action.Tick message) = ticks (vec_items message)
 deed_of action.Fetch = fetches
 deed_of action.Stop = stops
 
-abbrev pub asked_of : Call → Asked
+abbrev pub asked_of : OwnCall → Asked
 asked_of c = record { role = c.end; deed = deed_of c.action }
 
 -- What is told:
@@ -91,7 +90,7 @@ pub record Closed (t : LinkValue) (m : Meaning) : Type 0 where
   pub second : LetGoSeat t.responder between m
 
 -- A run of the calls asked, and the carrier after the last stops.
-pub record RunMade (sheet : Sheet) (numbers : Numbers) (m m' : Meaning) (calls : List Call) (answers : List Told) : Type 0 where
+pub record RunMade (sheet : Sheet) (numbers : Numbers) (m m' : Meaning) (calls : List OwnCall) (answers : List Told) : Type 0 where
   pub history : History Moment
   pub last : LinkValue
   pub ran : Ran (sheets_of sheet) m history last
@@ -100,7 +99,7 @@ pub record RunMade (sheet : Sheet) (numbers : Numbers) (m m' : Meaning) (calls :
   pub closed : Closed last m'
 
 -- for want of memory only the first calls were made; what they answered is not returned
-pub record RunHalted (sheet : Sheet) (numbers : Numbers) (m m' : Meaning) (calls : List Call) : Type 0 where
+pub record RunHalted (sheet : Sheet) (numbers : Numbers) (m m' : Meaning) (calls : List OwnCall) : Type 0 where
   pub number : ℕ
   pub answers : List Told
   pub run : RunMade sheet numbers m m' (take number calls) answers
@@ -110,7 +109,7 @@ pub record RunRefused (m m' : Meaning) (x : Refusal) : Type 0 where
   pub refusal : opening_refusal m.largest longest_frame ≡ Some x
   pub carrier : m' ≡ m
 
-abbrev pub Tells : Sheet → Numbers → Meaning → Meaning → List Call → Result (Vec Line Global) (Failure Refusal) → Type 0
+abbrev pub Tells : Sheet → Numbers → Meaning → Meaning → List OwnCall → Result (Vec Line Global) (Failure Refusal) → Type 0
 Tells sheet numbers m m' calls (Ok lines) = RunMade sheet numbers m m' calls (map told_by (vec_items lines))
 Tells sheet numbers m m' calls (Err NoMemory) = RunHalted sheet numbers m m' calls
 Tells sheet numbers m m' calls (Err (Cause x)) = RunRefused m m' x

@@ -77,7 +77,7 @@ impl Seats {
     }
 
     // One call.
-    fn step<C: Carrier>(&mut self, carrier: &mut C, call: &Call, buffers: &mut Buffers) -> Answer
+    fn step<C: Carrier>(&mut self, carrier: &mut C, call: &Call<Vec<u8>>, buffers: &mut Buffers) -> Answer
         ensures { Steps call.now (link_value (C.meaning carrier.old) self.old) (link_value (C.meaning carrier.new) self.new) buffers.new.fetched result }
     {
         self.0.at_mut(call.end).act(carrier, &call.action, buffers)
@@ -88,7 +88,7 @@ impl Seats {
         &mut self,
         heap: Global,
         carrier: &mut C,
-        calls: &[Call],
+        calls: &[Call<Vec<u8>>],
     ) -> Result<Vec<Line>, AllocError>
         ensures { Plays (link_value (C.meaning carrier.old) self.old) (link_value (C.meaning carrier.new) self.new) calls.now result }
     {
@@ -125,7 +125,7 @@ pub fn run<C: Carrier>(
     carrier: &mut C,
     sheet: &Sheet,
     numbers: Numbers,
-    calls: &[Call],
+    calls: &[Call<Vec<u8>>],
 ) -> Result<Vec<Line>, RunError>
     ensures tells { Tells sheet.now numbers (C.meaning carrier.old) (C.meaning carrier.new) calls.now result }
     ensures law { LawOfTheLink }

@@ -69,7 +69,7 @@ impl Seat {
     pub(crate) fn act<C: Carrier>(
         &mut self,
         carrier: &mut C,
-        action: &Action,
+        action: &Action<Vec<u8>>,
         buffers: &mut Buffers,
     ) -> Answer
         ensures acts { Acts action.now (seat_value self.old) (seat_value self.new) (C.meaning carrier.old) (C.meaning carrier.new) buffers.old.fetched buffers.new.fetched buffers.old.out buffers.new.out result }

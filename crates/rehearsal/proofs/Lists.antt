@@ -2,16 +2,15 @@
 use Rattle.std.proofs.Common.{◌≡◌, ℕ, suc, ◌+◌, ◌<◌, List, [], ◌∷◌, ◌++◌, map, length, get_or, take, sym, refl, ap, ◌∙◌, ap₂, append_assoc, append-nil, add-zero, arith, length-append, length-drop, length-take}
 use Rattle.std.proofs.lemmas.List.{length-map, take_more}
 use Rattle.carrier.specs.Rules.{Meaning}
-use Rattle.params.specs.declared.call.Call.{Call}
-use Rattle.params.specs.declared.sheet.Sheet.{Sheet}
+use Rattle.params.specs.Made.{Sheet}
 use Rattle.link.specs.declared.runs.Line.{Line}
 use Rattle.link.specs.declared.runs.Numbers.{Numbers}
 use Rattle.link.specs.Times.{History, new, ◌▸◌}
 use Rattle.link.specs.Runs.{Moment}
 use Rattle.link.specs.Tells.{deeds, told, asked_of, told_by, RunMade}
-use Rattle.rehearsal.specs.Listing.{shown_byte, got_text, entry_text, entries, heading, listing_text}
+use Rattle.rehearsal.specs.Listing.{OwnCall, shown_byte, got_text, entry_text, entries, heading, listing_text}
 
-entries_push : (n : ℕ) (cs : List Call) (ls : List Line) (c : Call) (l : Line) → length ls ≡ length cs
+entries_push : (n : ℕ) (cs : List OwnCall) (ls : List Line) (c : OwnCall) (l : Line) → length ls ≡ length cs
     → entries n (cs ++ (c ∷ [])) (ls ++ (l ∷ [])) ≡ entries n cs ls ++ entry_text (n + length cs) c l
 entries_push n [] [] c l e = append-nil (entry_text n c l) ∙ ap (λ k. entry_text k c l) (sym (add-zero n))
 entries_push n [] (k ∷ ks) c l e = absurd (omega arith)
@@ -23,7 +22,7 @@ entries_push n (b ∷ bs) (k ∷ ks) c l e =
     ∙ sym (append_assoc (entry_text n b k) (entries (suc n) bs ks) (entry_text (n + suc (length bs)) c l))
 
 -- one line more
-pub listing_more : (cs : List Call) (ls : List Line) (i : ℕ) (c : Call) (l : Line) → i < length ls → length ls ≡ length cs
+pub listing_more : (cs : List OwnCall) (ls : List Line) (i : ℕ) (c : OwnCall) (l : Line) → i < length ls → length ls ≡ length cs
     → c ≡ get_or cs i c → l ≡ get_or ls i l
     → listing_text (take i cs) (take i ls) ++ entry_text (i + 1) c l ≡ listing_text (take (i + 1) cs) (take (i + 1) ls)
 listing_more cs ls i c l h e ec el =
@@ -45,7 +44,7 @@ lengths : (h : History Moment) → length (deeds h) ≡ length (told h)
 lengths new = refl
 lengths (h ▸ m) = simp length-append (ap (λ n. n + 1) (lengths h))
 
-pub as_many : (sheet : Sheet) (n : Numbers) (m m' : Meaning) (calls : List Call) (lines : List Line)
+pub as_many : (sheet : Sheet) (n : Numbers) (m m' : Meaning) (calls : List OwnCall) (lines : List Line)
     → RunMade sheet n m m' calls (map told_by lines) → length lines ≡ length calls
 as_many sheet n m m' calls lines r =
     let a = ap length r.asked in

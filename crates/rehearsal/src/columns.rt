@@ -1,51 +1,13 @@
-// The columns of a listing: which end, what it was told, its state, and the reason.
+// The last column of a listing: why the call was refused, or why the end is out.
 ghost use Rattle.std.specs.Prelude.{◌≡◌, Some};
-ghost use Rattle.rehearsal.specs.Columns.{end_letter, deed_word, state_word, why_of, why_text};
+ghost use Rattle.rehearsal.specs.Columns.{why_of, why_text};
 
-use codec::frame_type::ReasonCodes;
 use ends::answer::Answer;
-use params::call::Action;
 use states::reason::Release;
 use states::state::Status;
 use std::fmt;
 use terms::refusal::Refusal;
-use terms::role::Role;
 
-pub(crate) fn end_letter(role: Role) -> &'static str
-    ensures { result.now ≡ end_letter role }
-{
-    match role {
-        Role::Initiator => "I",
-        Role::Responder => "R",
-    }
-}
-
-pub(crate) fn deed_word(action: &Action) -> &'static str
-    ensures { result.now ≡ deed_word action.now }
-{
-    match action {
-        Action::Tick(_) => "tick",
-        Action::Fetch => "fetch",
-        Action::Stop => "stop",
-    }
-}
-
-pub(crate) fn state_word(status: Status) -> &'static str
-    ensures { result.now ≡ state_word status }
-{
-    match status {
-        Status::WaitAu2 => "waitau2",
-        Status::WaitAr => "waitar",
-        Status::Listen => "listen",
-        Status::WaitAu3 => "waitau3",
-        Status::WaitEc => "waitec",
-        Status::WaitFirst => "waitfirst",
-        Status::Up => "up",
-        Status::Out(_) => "out",
-    }
-}
-
-// What the last column says: why the call was refused, or why the end is out.
 #[derive(Clone, Copy)]
 pub(crate) enum Why {
     Nothing,
@@ -53,13 +15,15 @@ pub(crate) enum Why {
     Out(Release),
 }
 
-pub(crate) fn why_of(answer: Answer) -> Why
-    ensures { result ≡ why_of answer }
-{
-    match (answer.refused, answer.status) {
-        (Some(refusal), _) => Why::Refused(refusal),
-        (None, Status::Out(release)) => Why::Out(release),
-        (None, _) => Why::Nothing,
+impl From<Answer> for Why {
+    ghost from_gives = { λ answer why. why ≡ why_of answer };
+
+    fn from(answer: Answer) -> Why {
+        match (answer.refused, answer.status) {
+            (Some(refusal), _) => Why::Refused(refusal),
+            (None, Status::Out(release)) => Why::Out(release),
+            (None, _) => Why::Nothing,
+        }
     }
 }
 
@@ -68,18 +32,16 @@ impl fmt::Display for Why {
 
     fn fmt<W: fmt::Write>(&self, f: &mut fmt::Formatter<W>) -> fmt::Result {
         match *self {
-            Why::Nothing => write!(f, "-"),
+            Why::Nothing => f.write_str("-"),
             Why::Refused(refusal) => {
                 let number = u8::from(refusal);
                 write!(f, "no{number}")
             }
-            Why::Out(Release::Own(own)) => {
-                let ReasonCodes { reason, sub_reason } = own.codes();
-                write!(f, "{reason}/{sub_reason}")
+            Why::Out(Release::Own(reason)) => {
+                let codes = reason.codes();
+                write!(f, "{codes}")
             }
-            Why::Out(Release::Far(ReasonCodes { reason, sub_reason })) => {
-                write!(f, "f{reason}/{sub_reason}")
-            }
+            Why::Out(Release::Far(codes)) => write!(f, "f{codes}"),
         }
     }
 }

@@ -1,20 +1,11 @@
 // The one line that a faulty file gives.
-ghost use Rattle.std.specs.Prelude.{◌≡◌, Some};
-ghost use Rattle.rehearsal.specs.Faults.{file_word, fault_line};
+ghost use Rattle.std.specs.Prelude.{Some};
+ghost use Rattle.rehearsal.specs.Faults.{fault_line};
 
 use std::fmt;
-use texts::fault::{File, FileFault};
+use texts::fault::FileFault;
 
-fn file_word(file: File) -> &'static str
-    ensures { result.now ≡ file_word file }
-{
-    match file {
-        File::Sheet => "sheet",
-        File::Script => "script",
-    }
-}
-
-// A fault as it is printed: its number, the file, the line and the column.
+// A fault as it is printed, with the end of its line.
 #[derive(Clone, Copy)]
 pub struct FaultLine(pub FileFault);
 
@@ -22,10 +13,7 @@ impl fmt::Display for FaultLine {
     ghost output = { λ f. Some (fault_line f.0) };
 
     fn fmt<W: fmt::Write>(&self, f: &mut fmt::Formatter<W>) -> fmt::Result {
-        let number = self.0.fault.number();
-        let file = file_word(self.0.file);
-        let line = self.0.line;
-        let column = self.0.column;
-        write!(f, "fault {number} {file} {line} {column}\n")
+        let fault = self.0;
+        write!(f, "{fault}\n")
     }
 }

@@ -1,8 +1,8 @@
 // The listing: a heading, and a line for each call.
-ghost use Rattle.std.specs.Prelude.{◌≡◌, ◌<◌, ◌++◌, length, IfOk, string_bytes};
+ghost use Rattle.std.specs.Prelude.{◌≡◌, ◌<◌, IfOk, string_bytes};
 ghost use Rattle.rehearsal.specs.Listing.{shown_byte, got_text, entry_text, listing_text};
 
-use crate::columns::{deed_word, end_letter, state_word, why_of};
+use crate::columns::Why;
 use link::runs::Line;
 use params::call::Call;
 use std::alloc::{AllocError, Global};
@@ -32,25 +32,33 @@ fn got_text(heap: Global, got: &[u8]) -> Result<String, AllocError>
 }
 
 // The line of one call.
-fn entry_text(heap: Global, step: usize, call: &Call, line: &Line) -> Result<String, AllocError>
+fn entry_text(
+    heap: Global,
+    step: usize,
+    call: &Call<Vec<u8>>,
+    line: &Line,
+) -> Result<String, AllocError>
     ensures { IfOk result (λ t. string_bytes t ≡ entry_text step call.now line.now) }
 {
-    let end = end_letter(call.end);
-    let deed = deed_word(&call.action);
-    let state = state_word(line.answer.status);
+    let end = call.end;
+    let action = &call.action;
+    let state = line.answer.status;
     let got = got_text(heap, line.got.as_slice())?;
-    let why = why_of(line.answer);
-    format!(in heap; "{step} {end} {deed} {state} {got} {why}\n")
+    let why = Why::from(line.answer);
+    format!(in heap; "{step} {end} {action} {state} {got} {why}\n")
 }
 
 // The listing of calls and of what each answered.
-pub(crate) fn listing(heap: Global, calls: &[Call], lines: &[Line]) -> Result<String, AllocError>
-    requires { length lines.now ≡ length calls.now }
+pub(crate) fn listing(
+    heap: Global,
+    calls: &[Call<Vec<u8>>],
+    lines: &[Line],
+) -> Result<String, AllocError>
     ensures { IfOk result (λ t. string_bytes t ≡ listing_text calls.now lines.now) }
 {
     let mut text = String::from_str(heap, HEADING)?;
-    for (i, line) in lines.iter().enumerate() {
-        let entry = entry_text(heap, i + 1, &calls[i], line)?;
+    for (i, (call, line)) in calls.iter().zip(lines.iter()).enumerate() {
+        let entry = entry_text(heap, i + 1, call, line)?;
         text.push_str(entry.as_str())?;
     }
     Ok(text)

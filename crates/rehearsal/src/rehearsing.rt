@@ -1,56 +1,27 @@
 // A rehearsal: the files read, a link opened over a wire, the calls made and listed.
 ghost use Rattle.std.specs.Prelude.{◌≡◌, IfOk, string_bytes};
-ghost use Rattle.rehearsal.specs.Rehearsals.{by_fault, no_memory, by_script, Performed, Rehearses};
+ghost use Rattle.rehearsal.specs.Rehearsals.{Performed, Prints, Rehearses};
 
+use crate::faults::FaultLine;
 use crate::listing::listing;
 use carrier::fifo::FifoWire;
 use ends::session::SessionNumber;
 use link::runs::{Numbers, RunError, run};
 use params::call::Call;
-use params::script::{ScriptError, read_script};
+use params::script::read_script;
 use params::sheet::{Sheet, read_sheet};
 use std::alloc::{AllocError, Global};
+use terms::failure::Failure;
 use texts::fault::FileFault;
 
 // The memory of the wire for what waits for either side, in bytes.
 const WIRE: usize = 8192;
 
 // Why there is no listing: a faulty file, or want of memory.
-#[derive(Clone, Copy)]
-pub enum RehearsalError {
-    Fault(FileFault),
-    NoMemory,
-}
-
-impl From<FileFault> for RehearsalError {
-    ghost from_gives = { λ f r. r ≡ by_fault f };
-
-    fn from(fault: FileFault) -> RehearsalError {
-        RehearsalError::Fault(fault)
-    }
-}
-
-impl From<AllocError> for RehearsalError {
-    ghost from_gives = { λ _ r. r ≡ no_memory };
-
-    fn from(_error: AllocError) -> RehearsalError {
-        RehearsalError::NoMemory
-    }
-}
-
-impl From<ScriptError> for RehearsalError {
-    ghost from_gives = { λ e r. r ≡ by_script e };
-
-    fn from(error: ScriptError) -> RehearsalError {
-        match error {
-            ScriptError::Fault(fault) => RehearsalError::Fault(fault),
-            ScriptError::NoMemory => RehearsalError::NoMemory,
-        }
-    }
-}
+pub type RehearsalError = Failure<FileFault>;
 
 // The calls made on a link over a new wire, and listed.
-fn perform(heap: Global, sheet: &Sheet, calls: &[Call]) -> Result<String, AllocError>
+fn perform(heap: Global, sheet: &Sheet, calls: &[Call<Vec<u8>>]) -> Result<String, AllocError>
     ensures { IfOk result (λ t. Performed sheet.now calls.now (string_bytes t)) }
 {
     let mut wire = FifoWire::new(heap, WIRE, WIRE)?;
@@ -63,7 +34,7 @@ fn perform(heap: Global, sheet: &Sheet, calls: &[Call]) -> Result<String, AllocE
         Ok(lines) => listing(heap, calls, lines.as_slice()),
         Err(RunError::NoMemory) => Err(AllocError),
         // the wire takes the longest frame
-        Err(RunError::Refused(_)) => unreachable(),
+        Err(RunError::Cause(_)) => unreachable(),
     }
 }
 
@@ -75,4 +46,14 @@ pub fn rehearse(heap: Global, sheet: &[u8], script: &[u8]) -> Result<String, Reh
     let calls = read_script(heap, script)?;
     let text = perform(heap, &sheet, calls.as_slice())?;
     Ok(text)
+}
+
+// What a rehearsal prints: its listing, or the line of the fault.
+pub fn printed(heap: Global, sheet: &[u8], script: &[u8]) -> Result<String, RehearsalError>
+    ensures { IfOk result (λ t. Prints sheet.now script.now (string_bytes t)) }
+{
+    match rehearse(heap, sheet, script) {
+        Err(RehearsalError::Cause(fault)) => Ok(FaultLine(fault).to_string(heap)?),
+        done => done,
+    }
 }
