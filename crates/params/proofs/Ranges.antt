@@ -2,7 +2,7 @@
 use Rattle.std.proofs.Common.{IfOk, Ok, Err, Result}
 use Rattle.texts.specs.declared.fault.FileFault.{FileFault}
 use Rattle.params.specs.declared.params.Params.{Params}
-use Rattle.params.specs.declared.sheet.Sheet.{Sheet}
+use Rattle.params.specs.Made.{Sheet}
 use Rattle.params.specs.Laws.{InRange}
 
 pub params_inside : (p : Params) → InRange p.values

@@ -13,13 +13,11 @@ use Rattle.texts.specs.Columns.{text_in}
 use Rattle.texts.specs.Faults.{at_column, on_line, whole_line}
 use Rattle.texts.specs.Headings.{read_names}
 use Rattle.texts.specs.Pieces.{before, after, count_of}
-use Rattle.params.specs.declared.call.Deed.{Deed}
-use Rattle.params.specs.declared.script.Head.{Head}
-use Rattle.params.specs.declared.script.ScriptError.{ScriptError}
-use Rattle.params.specs.declared.script.ScriptError.TheVariants as script-error
-use Rattle.params.specs.Calls.{Said, spoken, Answers}
+use Rattle.terms.specs.declared.failure.Failure.TheVariants.{Cause, NoMemory}
+use Rattle.params.specs.declared.call.Action.{Action}
+use Rattle.params.specs.Calls.{Said, Answers, ScriptError}
 use Rattle.params.specs.FirstFault.{by_fault_first, verdict, call_columns, past_lines, FirstInScript}
-use Rattle.params.specs.Scripts.{read_role, read_deed, read_text, read_head, message_in, read_call, read_calls, ahead, script_names, read_script}
+use Rattle.params.specs.Scripts.{read_role, read_deed, read_text, read_values, read_call, read_calls, ahead, script_names, read_script}
 
 -- the values before column n of a line are good
 abbrev GoodValues : List ℕ → ℕ → Type 0
@@ -33,9 +31,9 @@ abbrev CallLaw : {T : Type 0} → ℕ → List ℕ → Result T FileFault → Ty
 CallLaw n line (Ok x) = Unit {0}
 CallLaw n line (Err f) = CallFault n line f
 
-abbrev HeadLaw : List ℕ → Result Head LineFault → Type 0
-HeadLaw line (Ok h) = Unit {0}
-HeadLaw line (Err f) = GoodValues line f.column
+abbrev ValuesLaw : {T : Type 0} → List ℕ → Result T LineFault → Type 0
+ValuesLaw line (Ok x) = Unit {0}
+ValuesLaw line (Err f) = GoodValues line f.column
 
 none : (line : List ℕ) (n : ℕ) → n ≤ 1 → GoodValues line n
 none line n h k low high = absurd (omega arith)
@@ -48,30 +46,31 @@ two_values line e d k low high =
     ⊎_elim (λ i. subst (λ j. get_or call_columns (j - 1) (λ _. Ok tt) (text_in j line) ≡ Ok tt) (sym i) d)
     (λ ne. one_value line e k low (omega arith)) (cases_eq k 2)
 
-text_law : (line : List ℕ) (h : Head) (r : Result (Unit {0}) Fault) → GoodValues line 3 → HeadLaw line (then (at_column r 3) (λ _. Ok h))
-text_law line h (Ok x) g = tt
-text_law line h (Err e) g = g
+text_law : (line : List ℕ) (role : Role) (r : Result (Action (List ℕ)) Fault) → GoodValues line 3
+    → ValuesLaw {T = Said} line (then (at_column r 3) (λ a. Ok record { end = role; action = a }))
+text_law line role (Ok a) g = tt
+text_law line role (Err e) g = g
 
-deed_law : (line : List ℕ) (role : Role) (r : Result Deed Fault) → verdict (read_role (text_in 1 line)) ≡ Ok tt → verdict (read_deed (text_in 2 line)) ≡ verdict r
-    → HeadLaw line (then (at_column r 2) (λ d. then (at_column (read_text d (text_in 3 line)) 3) (λ _. Ok record { end = role; deed = d })))
-deed_law line role (Ok d) e i = text_law line record { end = role; deed = d } (read_text d (text_in 3 line)) (two_values line e i)
+deed_law : (line : List ℕ) (role : Role) (r : Result (Action (Unit {0})) Fault) → verdict (read_role (text_in 1 line)) ≡ Ok tt → verdict (read_deed (text_in 2 line)) ≡ verdict r
+    → ValuesLaw {T = Said} line (then (at_column r 2) (λ d. then (at_column (read_text d (text_in 3 line)) 3) (λ a. Ok record { end = role; action = a })))
+deed_law line role (Ok d) e i = text_law line role (read_text d (text_in 3 line)) (two_values line e i)
 deed_law line role (Err w) e i = one_value line e
 
 role_law : (line : List ℕ) (r : Result Role Fault) → verdict (read_role (text_in 1 line)) ≡ verdict r
-    → HeadLaw line (then (at_column r 1) (λ role. then (at_column (read_deed (text_in 2 line)) 2) (λ d. then (at_column (read_text d (text_in 3 line)) 3) (λ _. Ok record { end = role; deed = d }))))
+    → ValuesLaw {T = Said} line (then (at_column r 1) (λ role. then (at_column (read_deed (text_in 2 line)) 2) (λ d. then (at_column (read_text d (text_in 3 line)) 3) (λ a. Ok record { end = role; action = a }))))
 role_law line (Ok role) i = deed_law line role (read_deed (text_in 2 line)) i refl
 role_law line (Err w) i = none line 1 (omega arith)
 
-counted_law : (line : List ℕ) (b : Bool) (r : Result Head LineFault) → HeadLaw line r → HeadLaw line (cond b r (Err (whole_line WrongCount)))
+counted_law : {T : Type 0} (line : List ℕ) (b : Bool) (r : Result T LineFault) → ValuesLaw line r → ValuesLaw line (cond b r (Err (whole_line WrongCount)))
 counted_law line true r h = h
 counted_law line false r h = none line 0 (omega arith)
 
-head_law : (line : List ℕ) → HeadLaw line (read_head line)
-head_law line = counted_law line (eqb (count_of 32 line) 2) _ (role_law line (read_role (text_in 1 line)) refl)
+values_law : (line : List ℕ) → ValuesLaw line (read_values line)
+values_law line = counted_law line (eqb (count_of 32 line) 2) _ (role_law line (read_role (text_in 1 line)) refl)
 
-placed_law : (n : ℕ) (line : List ℕ) (r : Result Head LineFault) (f : Head → Said) → HeadLaw line r → CallLaw n line (then (on_line r Script n) (λ h. Ok (f h)))
-placed_law n line (Ok h) f l = tt
-placed_law n line (Err e) f l = (refl, refl, l)
+placed_law : {T : Type 0} (n : ℕ) (line : List ℕ) (r : Result T LineFault) → ValuesLaw line r → CallLaw n line (on_line r Script n)
+placed_law n line (Ok x) l = tt
+placed_law n line (Err e) l = (refl, refl, l)
 
 abbrev ended_by : Bool → Result (Unit {0}) LineFault
 ended_by b = cond b (Err (whole_line WrongCount)) (Ok tt)
@@ -83,7 +82,7 @@ end_law n line false r h = h
 call_law : (n : ℕ) (t : List ℕ) → CallLaw n (before 10 t) (read_call n t)
 call_law n t =
     end_law n (before 10 t) (eqb (count_of 10 t) 0) _
-    (placed_law n (before 10 t) (read_head (before 10 t)) (λ h. spoken h (message_in (text_in 3 (before 10 t)))) (head_law (before 10 t)))
+    (placed_law n (before 10 t) (read_values (before 10 t)) (values_law (before 10 t)))
 
 -- the calls from line n on
 abbrev CallsFault : ℕ → List ℕ → FileFault → Type 0
@@ -163,5 +162,5 @@ script_first text =
 -- what the answer of the reader says, once it is known to be the definition's
 pub script_first_fault : {T : Type 0} (P : Type 0) (text : List ℕ) (g : T → List Said) (r : Result T ScriptError) → Answers g (read_script text) P r → IfErr r (by_fault_first text)
 script_first_fault P text g (Ok v) h = tt
-script_first_fault P text g (Err (script-error.Fault f)) h = subst (ScriptLaw text) h (script_first text)
-script_first_fault P text g (Err script-error.NoMemory) h = tt
+script_first_fault P text g (Err (Cause f)) h = subst (ScriptLaw text) h (script_first text)
+script_first_fault P text g (Err NoMemory) h = tt

@@ -1,5 +1,5 @@
 -- One line of a script after another.
-use Rattle.std.proofs.Common.{◌≡◌, ℕ, zero, suc, ◌+◌, ◌-◌, ◌<◌, true, ◌≢◌, ◌⊎◌, List, [], ◌∷◌, ◌++◌, length, is_ok, Ok, Err, Result, sym, refl, ap, ◌∙◌, subst, inr, ⊎_elim, append_assoc, append-nil, arith}
+use Rattle.std.proofs.Common.{◌≡◌, ℕ, zero, suc, ◌+◌, ◌-◌, ◌<◌, true, ◌≢◌, ◌⊎◌, List, [], ◌∷◌, ◌++◌, length, is_ok, Ok, Err, Vec, Result, sym, refl, ap, ◌∙◌, subst, inr, ⊎_elim, append_assoc, append-nil, arith}
 use Rattle.std.proofs.lemmas.Bool.{cond-true, cond-false, eq-eqb, ne_eqb}
 use Rattle.terms.specs.Outcomes.{then}
 use Rattle.texts.specs.declared.fault.FileFault.{FileFault}
@@ -7,9 +7,9 @@ use Rattle.texts.specs.declared.fault.File.TheVariants.{Script}
 use Rattle.texts.specs.declared.fault.Fault.TheVariants.{WrongCount}
 use Rattle.texts.specs.Pieces.{after}
 use Rattle.params.specs.declared.call.Call.{Call}
-use Rattle.params.specs.declared.script.ScriptError.{ScriptError}
-use Rattle.params.specs.declared.script.ScriptError.TheVariants as script-error
-use Rattle.params.specs.Calls.{Said, said, all_said, Answers}
+use Rattle.std.specs.declared.alloc.Global.{Global}
+use Rattle.terms.specs.declared.failure.Failure.TheVariants.{Cause, NoMemory}
+use Rattle.params.specs.Calls.{Said, said, all_said, Answers, ScriptError}
 use Rattle.params.specs.Scripts.{read_call, read_calls, ahead}
 
 pub calls_none : (k n : ℕ) (s : List ℕ) → length s ≡ 0 → read_calls k n s ≡ Ok []
@@ -66,6 +66,6 @@ module _ (cs : List Said) (line : ℕ) (rest text : List ℕ) (r : Reading cs li
       inr (first_good (ap is_ok is)),
     )
 
-    pub reading_stops : (e : ScriptError) → Answers {T = Call} said (read_call line rest) (is_ok (read_call line rest) ≡ true) (Err e) → Answers all_said (read_calls 800 2 text) (is_ok (read_call 2 text) ≡ true) (Err e)
-    reading_stops (script-error.Fault f) h = reading_fault f h
-    reading_stops script-error.NoMemory h = first_good h
+    pub reading_stops : (e : ScriptError) → Answers {T = Call (Vec ℕ Global)} said (read_call line rest) (is_ok (read_call line rest) ≡ true) (Err e) → Answers all_said (read_calls 800 2 text) (is_ok (read_call 2 text) ≡ true) (Err e)
+    reading_stops (Cause f) h = reading_fault f h
+    reading_stops NoMemory h = first_good h

@@ -12,13 +12,11 @@ use Rattle.texts.specs.Headings.{read_names, read_end}
 use Rattle.texts.specs.Pieces.{before, after}
 use Rattle.texts.specs.Words.{printable, is_word}
 use Rattle.texts.proofs.HexTrips.{then_parts}
-use Rattle.params.specs.declared.call.Deed.{Deed}
-use Rattle.params.specs.declared.call.Deed.TheVariants as deed
-use Rattle.params.specs.declared.script.Head.{Head}
-use Rattle.params.specs.declared.script.ScriptError.{ScriptError}
-use Rattle.params.specs.Calls.{Said, carried, Answers}
+use Rattle.params.specs.declared.call.Action.{Action}
+use Rattle.params.specs.declared.call.Action.TheVariants as action
+use Rattle.params.specs.Calls.{Said, message_of, Answers, ScriptError}
 use Rattle.params.specs.Laws.{Ready, AllReady, ReadyScript}
-use Rattle.params.specs.Scripts.{read_role, read_deed, read_word, read_text, message_in, read_head, read_call, read_calls, ahead, script_names, read_script}
+use Rattle.params.specs.Scripts.{read_role, read_deed, read_message, read_text, read_values, read_call, read_calls, ahead, script_names, read_script}
 use Rattle.params.proofs.Outcomes.{ok_same, at_parts, on_parts, cond_ok}
 
 abbrev Short : List ℕ → Type 0
@@ -32,27 +30,31 @@ word_short s e =
 nothing : Short []
 nothing = (omega arith, refl)
 
--- a text that suits its deed stands for a short message
-message_short : (d : Deed) (s : List ℕ) (b : Bool) (u : Unit {0}) → cond b (Ok tt) (read_word d s) ≡ Ok u → Short (carried d (cond b [] s))
-message_short deed.Tick s true u e = nothing
-message_short deed.Tick s false u e = word_short s (cond_ok (is_word 64 s) (Ok tt) WrongForm u e).0
-message_short deed.Fetch s b u e = nothing
-message_short deed.Stop s b u e = nothing
+-- a message that was read is short
+message_by : (s m : List ℕ) (b : Bool) → cond b (Ok []) (cond (is_word 64 s) (Ok s) (Err WrongForm)) ≡ Ok m → Short m
+message_by s m true e = subst Short (ok_same e) nothing
+message_by s m false e = let p = cond_ok (is_word 64 s) (Ok s) WrongForm m e in subst Short (ok_same p.1) (word_short s p.0)
 
-head_short : (line : List ℕ) (h : Head) → read_head line ≡ Ok h → Short (carried h.deed (message_in (text_in 3 line)))
-head_short line h e =
-    let p = cond_ok _ _ _ h e in
-    let r = then_parts (at_column (read_role (text_in 1 line)) 1) _ h p.1 in
-    let d = then_parts (at_column (read_deed (text_in 2 line)) 2) _ h r.2 in
-    let t = then_parts (at_column (read_text d.0 (text_in 3 line)) 3) _ h d.2 in
-    let s = message_short d.0 (text_in 3 line) (bytes_eq (text_in 3 line) (codes "-")) t.0 (at_parts (read_text d.0 (text_in 3 line)) 3 t.0 t.1) in
-    subst (λ x. Short (carried x.deed (message_in (text_in 3 line)))) (ok_same t.2) s
+message_short : (s m : List ℕ) → read_message s ≡ Ok m → Short m
+message_short s m e = message_by s m (bytes_eq s (codes "-")) e
+
+text_short : (d : Action (Unit {0})) (s : List ℕ) (a : Action (List ℕ)) → read_text d s ≡ Ok a → Short (message_of a)
+text_short (action.Tick _) s a e = let p = then_parts (read_message s) _ a e in subst (λ x. Short (message_of x)) (ok_same p.2) (message_short s p.0 p.1)
+text_short action.Fetch s a e = subst (λ x. Short (message_of x)) (ok_same (cond_ok _ _ _ a e).1) nothing
+text_short action.Stop s a e = subst (λ x. Short (message_of x)) (ok_same (cond_ok _ _ _ a e).1) nothing
+
+values_ready : (line : List ℕ) (c : Said) → read_values line ≡ Ok c → Ready c
+values_ready line c e =
+    let p = cond_ok _ _ _ c e in
+    let r = then_parts (at_column (read_role (text_in 1 line)) 1) _ c p.1 in
+    let d = then_parts (at_column (read_deed (text_in 2 line)) 2) _ c r.2 in
+    let t = then_parts (at_column (read_text d.0 (text_in 3 line)) 3) _ c d.2 in
+    subst Ready (ok_same t.2) (text_short d.0 (text_in 3 line) t.0 (at_parts (read_text d.0 (text_in 3 line)) 3 t.0 t.1))
 
 call_ready : (n : ℕ) (text : List ℕ) (c : Said) → read_call n text ≡ Ok c → Ready c
 call_ready n text c e =
     let p = then_parts (on_line (read_end text) Script n) _ c e in
-    let q = then_parts (on_line (read_head (before 10 text)) Script n) _ c p.2 in
-    subst Ready (ok_same q.2) (head_short (before 10 text) q.0 (on_parts (read_head (before 10 text)) Script n q.0 q.1))
+    values_ready (before 10 text) c (on_parts (read_values (before 10 text)) Script n c p.2)
 
 abbrev FewReady : ℕ → List Said → Type 0
 FewReady k cs = (length cs ≤ k) × AllReady cs

@@ -20,8 +20,7 @@ use Rattle.params.specs.declared.line.Identifiers.{Identifiers}
 use Rattle.params.specs.declared.line.Ages.{Ages}
 use Rattle.params.specs.declared.line.Limits.{Limits}
 use Rattle.params.specs.declared.values.Values.{Values}
-use Rattle.params.specs.declared.sheet.Sheet.{Sheet as SheetSets}
-use Rattle.params.specs.Made.{sheet_values}
+use Rattle.params.specs.Made.{Sheet as SheetSets, sheet_values}
 use Rattle.params.specs.Checks.{kept, kept_below, apart, checked}
 use Rattle.params.specs.Columns.{names, differing, distance, versions, periods, windows, mmins, mmaxs, asks, waits, setups, datas, ecs}
 use Rattle.params.specs.FirstFault.{GoodBefore, FirstInLine, from_line, good_lines, role_of, not_names, not_ended, one_more, in_line, FirstFault}

@@ -14,8 +14,7 @@ use Rattle.texts.specs.Pieces.{before, after, count_of}
 use Rattle.texts.proofs.HexTrips.{then_parts, then_at}
 use Rattle.texts.proofs.Joins.{count_join, before_join, after_join, cut_back}
 use Rattle.params.specs.declared.params.Params.{Params}
-use Rattle.params.specs.declared.sheet.Sheet.{Sheet as SheetSets}
-use Rattle.params.specs.Made.{both_values, sheet_values}
+use Rattle.params.specs.Made.{Sheet as SheetSets, both_values, sheet_values}
 use Rattle.texts.specs.declared.fault.FileFault.{FileFault}
 use Rattle.params.specs.declared.values.Values.{Values}
 use Rattle.params.specs.Columns.{names}

@@ -12,8 +12,8 @@ use Rattle.texts.specs.Columns.{text_in}
 use Rattle.texts.specs.Headings.{read_names}
 use Rattle.texts.specs.Numbers.{read_number, read_below, read_hex}
 use Rattle.texts.specs.Pieces.{before, after, count_of}
-use Rattle.params.specs.declared.script.ScriptError.{ScriptError}
-use Rattle.params.specs.declared.script.ScriptError.TheVariants as script-error
+use Rattle.terms.specs.declared.failure.Failure.TheVariants.{Cause, NoMemory}
+use Rattle.params.specs.Calls.{ScriptError}
 use Rattle.params.specs.Columns.{names, versions, periods, windows, mmins, mmaxs, asks, waits, setups, datas, ecs}
 use Rattle.params.specs.Lines.{role_column}
 use Rattle.params.specs.Scripts.{read_role, read_deed, read_call, script_names}
@@ -103,5 +103,5 @@ pub record FirstInScript (text : List ℕ) (f : FileFault) : Type 0 where
 
 -- an error that is a fault is the first one
 abbrev pub by_fault_first : List ℕ → ScriptError → Type 0
-by_fault_first text (script-error.Fault f) = FirstInScript text f
-by_fault_first text script-error.NoMemory = Unit {0}
+by_fault_first text (Cause f) = FirstInScript text f
+by_fault_first text NoMemory = Unit {0}

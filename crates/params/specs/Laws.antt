@@ -1,7 +1,7 @@
 -- What a railway may rely on, in its own words.
 use Rattle.std.specs.Prelude.{◌≡◌, ◌≤◌, true, List, [], ◌∷◌, length, negsuc, ◌≤ℤ◌, bit_xor, count_ones}
 use Rattle.texts.specs.Words.{printable}
-use Rattle.params.specs.Calls.{Said}
+use Rattle.params.specs.Calls.{Said, message_of}
 use Rattle.params.specs.declared.values.Values.{Values}
 
 -- every value of a parameter set lies in its range: negsuc 999 is -1000, negsuc 0 is -1
@@ -21,7 +21,7 @@ pub record InRange (v : Values) : Type 0 where
 
 -- a call has a message of at most 64 bytes, each printable and no space
 abbrev pub Ready : Said → Type 0
-Ready c = (length c.message ≤ 64) × (printable c.message ≡ true)
+Ready c = (length (message_of c.action) ≤ 64) × (printable (message_of c.action) ≡ true)
 
 abbrev pub AllReady : List Said → Type 0
 AllReady [] = Unit {0}

@@ -14,52 +14,45 @@ use Rattle.texts.specs.Faults.{at_column, on_line, whole_line}
 use Rattle.texts.specs.Headings.{read_names, read_end}
 use Rattle.texts.specs.Pieces.{before, after, count_of}
 use Rattle.texts.specs.Words.{is_word}
-use Rattle.params.specs.declared.call.Deed.{Deed}
-use Rattle.params.specs.declared.call.Deed.TheVariants as deed
-use Rattle.params.specs.declared.script.Head.{Head}
-use Rattle.params.specs.Calls.{Said, spoken}
+use Rattle.params.specs.declared.call.Action.{Action}
+use Rattle.params.specs.declared.call.Action.TheVariants as action
+use Rattle.params.specs.Calls.{Said}
 
 -- column 1
 abbrev pub read_role : List ℕ → Result Role Fault
 read_role s = cond (bytes_eq s (codes "I")) (Ok Initiator) (cond (bytes_eq s (codes "R")) (Ok Responder) (Err WrongForm))
 
--- column 2
-abbrev pub read_deed : List ℕ → Result Deed Fault
+-- column 2: what the end does, its message apart
+abbrev pub read_deed : List ℕ → Result (Action (Unit {0})) Fault
 read_deed s =
-    cond (bytes_eq s (codes "tick")) (Ok deed.Tick)
-    (cond (bytes_eq s (codes "fetch")) (Ok deed.Fetch)
-    (cond (bytes_eq s (codes "stop")) (Ok deed.Stop) (Err WrongForm)))
+    cond (bytes_eq s (codes "tick")) (Ok (action.Tick tt))
+    (cond (bytes_eq s (codes "fetch")) (Ok action.Fetch)
+    (cond (bytes_eq s (codes "stop")) (Ok action.Stop) (Err WrongForm)))
 
--- column 3: a word of at most 64 bytes for a tick
-abbrev pub read_word : Deed → List ℕ → Result (Unit {0}) Fault
-read_word deed.Tick s = cond (is_word 64 s) (Ok tt) (Err WrongForm)
-read_word deed.Fetch s = Err WrongForm
-read_word deed.Stop s = Err WrongForm
+-- the message of a tick: none for `-`, or a word of at most 64 bytes
+abbrev pub read_message : List ℕ → Result (List ℕ) Fault
+read_message s = cond (bytes_eq s (codes "-")) (Ok []) (cond (is_word 64 s) (Ok s) (Err WrongForm))
 
--- or `-`, for any deed
-abbrev pub read_text : Deed → List ℕ → Result (Unit {0}) Fault
-read_text d s = cond (bytes_eq s (codes "-")) (Ok tt) (read_word d s)
-
--- the message that a text stands for: none for `-`
-abbrev pub message_in : List ℕ → List ℕ
-message_in s = cond (bytes_eq s (codes "-")) [] s
+-- column 3: a tick's message; the others have `-` in its place
+abbrev pub read_text : Action (Unit {0}) → List ℕ → Result (Action (List ℕ)) Fault
+read_text (action.Tick _) s = then (read_message s) (λ m. Ok (action.Tick m))
+read_text action.Fetch s = cond (bytes_eq s (codes "-")) (Ok action.Fetch) (Err WrongForm)
+read_text action.Stop s = cond (bytes_eq s (codes "-")) (Ok action.Stop) (Err WrongForm)
 
 -- a line has three values, so two spaces; then come the values in order
-abbrev pub read_head : List ℕ → Result Head LineFault
-read_head line =
+abbrev pub read_values : List ℕ → Result Said LineFault
+read_values line =
     cond (count_of 32 line == 2)
     (then (at_column (read_role (text_in 1 line)) 1) (λ r.
     then (at_column (read_deed (text_in 2 line)) 2) (λ d.
-    then (at_column (read_text d (text_in 3 line)) 3) (λ _.
-    Ok record { end = r; deed = d }))))
+    then (at_column (read_text d (text_in 3 line)) 3) (λ a.
+    Ok record { end = r; action = a }))))
     (Err (whole_line WrongCount))
 
 -- the call that a text begins with, which is line n of the script
 abbrev pub read_call : ℕ → List ℕ → Result Said FileFault
 read_call n text =
-    then (on_line (read_end text) Script n) (λ _.
-    then (on_line (read_head (before 10 text)) Script n) (λ h.
-    Ok (spoken h (message_in (text_in 3 (before 10 text))))))
+    then (on_line (read_end text) Script n) (λ _. on_line (read_values (before 10 text)) Script n)
 
 -- one call before others
 abbrev pub ahead : List Said → Result (List Said) FileFault → Result (List Said) FileFault

@@ -1,25 +1,17 @@
 // The calls of a script.
 use terms::role::Role;
 
-// What an end is told to do; a tick carries a message of 0 to 64 bytes.
+// What an end is told to do; a tick carries a message.
 #[derive(Drop)]
-pub enum Action {
-    Tick(Vec<u8>),
+pub enum Action<M> {
+    Tick(M),
     Fetch,
     Stop,
 }
 
 // One call: which end, and what it does.
 #[derive(Drop)]
-pub struct Call {
+pub struct Call<M> {
     pub end: Role,
-    pub action: Action,
-}
-
-// The words of the second column.
-#[derive(Clone, Copy)]
-pub enum Deed {
-    Tick,
-    Fetch,
-    Stop,
+    pub action: Action<M>,
 }

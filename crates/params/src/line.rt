@@ -111,10 +111,7 @@ pub(crate) fn read_line(line: &[u8], role: Role) -> Result<Params, LineFault>
     ensures { values_of result ≡ read_line role line.now }
 {
     if count(line, b' ') != COLUMNS - 1 {
-        return Err(LineFault {
-            fault: Fault::WrongCount,
-            column: 0,
-        });
+        return Err(Fault::WrongCount.whole_line());
     }
     let Identifiers { own, far } = read_identifiers(line, role)?;
     let ages = read_ages(line)?;

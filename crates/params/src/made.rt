@@ -17,11 +17,8 @@ fn keeps(n: u32, column: Column) -> Result<(), LineFault>
     ensures answer { result ≡ kept column n }
     ensures inside { OnOk result (Keeps column n) }
 {
-    if n < column.range.low || column.range.high < n {
-        return Err(LineFault {
-            fault: Fault::OutOfRange,
-            column: column.place,
-        });
+    if !column.range.contains(u64::from(n)) {
+        return Err(Fault::OutOfRange.at(column.place));
     }
     Ok(())
 }
@@ -32,10 +29,7 @@ fn keeps_below(z: i64, column: Column) -> Result<(), LineFault>
     ensures inside { OnOk result (KeepsBelow column z) }
 {
     if z < -i64::from(column.range.high) || -i64::from(column.range.low) < z {
-        return Err(LineFault {
-            fault: Fault::OutOfRange,
-            column: column.place,
-        });
+        return Err(Fault::OutOfRange.at(column.place));
     }
     Ok(())
 }
@@ -47,11 +41,8 @@ fn differ(own: u32, far: u32) -> Result<(), LineFault>
     ensures inside { OnOk result (Apart own far) }
 {
     let bits = (own ^ far).count_ones();
-    if bits < DIFFERING.low || DIFFERING.high < bits {
-        return Err(LineFault {
-            fault: Fault::DifferingBits,
-            column: 0,
-        });
+    if !DIFFERING.contains(u64::from(bits)) {
+        return Err(Fault::DifferingBits.whole_line());
     }
     Ok(())
 }

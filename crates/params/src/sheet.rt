@@ -10,24 +10,21 @@ use super::columns::NAMES;
 use super::line::read_line;
 use super::params::Params;
 use terms::role::Role;
+use terms::sides::Sides;
 use texts::cutting::cut;
-use texts::fault::{Fault, File, FileFault, On};
+use texts::fault::{Fault, File, FileFault};
 use texts::heading::{ended, names};
 
 // The parameter sets of the two ends.
-#[derive(Clone, Copy)]
-pub struct Sheet {
-    pub initiator: Params,
-    pub responder: Params,
-}
+pub type Sheet = Sides<Params>;
 
 // The line that a text begins with, which is the given line of the sheet.
 fn read_row(text: &[u8], role: Role, line: u16) -> Result<Params, FileFault>
     ensures { values_of result ≡ read_row role line text.now }
 {
-    ended(text).on(File::Sheet, line)?;
+    ended(text).map_err(|fault| fault.on(File::Sheet, line))?;
     let (row, _) = cut(text, b'\n');
-    read_line(row, role).on(File::Sheet, line)
+    read_line(row, role).map_err(|fault| fault.on(File::Sheet, line))
 }
 
 // The two lines behind the names.
@@ -39,14 +36,9 @@ fn read_rows(text: &[u8]) -> Result<Sheet, FileFault>
     let responder = read_row(rest, Role::Responder, 3)?;
     let (_, rest) = cut(rest, b'\n');
     if !rest.is_empty() {
-        return Err(FileFault {
-            fault: Fault::WrongCount,
-            file: File::Sheet,
-            line: 4,
-            column: 0,
-        });
+        return Err(Fault::WrongCount.whole_line().on(File::Sheet, 4));
     }
-    Ok(Sheet {
+    Ok(Sides {
         initiator,
         responder,
     })
@@ -59,7 +51,7 @@ pub fn read_sheet(text: &[u8]) -> Result<Sheet, FileFault>
     ensures first { IfErr result (λ f. FirstFault text.now f) }
     ensures rewritten { IfOk result (λ s. sheet_text (both_values s) ≡ text.now) }
 {
-    names(text, NAMES).on(File::Sheet, 1)?;
+    names(text, NAMES).map_err(|fault| fault.on(File::Sheet, 1))?;
     let (_, rest) = cut(text, b'\n');
     read_rows(rest)
 }

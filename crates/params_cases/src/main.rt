@@ -4,32 +4,26 @@
 
 use anyhow::anyhow;
 use params::call::{Action, Call};
-use params::params::Params;
-use params::script::{ScriptError, read_script};
+use params::script::read_script;
 use params::sheet::{Sheet, read_sheet};
 use params::writing::write_sheet;
 use std::alloc::Global;
 use std::io::Read;
+use terms::failure::Failure;
 use terms::role::Role;
-use texts::cutting::{count, cut};
-use texts::fault::{File, FileFault};
+use texts::cutting::count;
+use texts::fault::FileFault;
 
 const END: u8 = b'|';
 
 fn print_fault(rt: &HostRuntime, n: usize, fault: FileFault) -> anyhow::Result<()> {
-    let number = fault.fault.number();
-    let file = match fault.file {
-        File::Sheet => "sheet",
-        File::Script => "script",
-    };
-    let line = fault.line;
-    let column = fault.column;
-    println!(rt; "{n} fault {number} {file} {line} {column}")?;
+    println!(rt; "{n} {fault}")?;
     Ok(())
 }
 
 // What a parameter set carries is known here too: neither sum nor difference needs a test.
-fn print_params(rt: &HostRuntime, name: &str, params: &Params) -> anyhow::Result<()> {
+fn print_params(rt: &HostRuntime, role: Role, sheet: &Sheet) -> anyhow::Result<()> {
+    let params = sheet.at(role);
     let values = params.values();
     let ask = values.ask.0;
     let limit = values.ask.0 + values.wait.0;
@@ -37,8 +31,8 @@ fn print_params(rt: &HostRuntime, name: &str, params: &Params) -> anyhow::Result
     let ages = i64::from(values.mmax) - values.mmin;
     let longest = values.longest;
     let ec = values.ec.0;
-    println!(rt; "  {name} ask {ask} wait {wait} limit {limit} ages {ages}")?;
-    println!(rt; "  {name} longest {longest} ec {ec}")?;
+    println!(rt; "  {role} ask {ask} wait {wait} limit {limit} ages {ages}")?;
+    println!(rt; "  {role} longest {longest} ec {ec}")?;
     Ok(())
 }
 
@@ -50,15 +44,12 @@ fn print_sheet(rt: &HostRuntime, n: usize, text: &[u8], sheet: &Sheet) -> anyhow
         "another"
     };
     println!(rt; "{n} good sheet, written again the {word}")?;
-    print_params(rt, "I", &sheet.initiator)?;
-    print_params(rt, "R", &sheet.responder)
+    print_params(rt, Role::Initiator, sheet)?;
+    print_params(rt, Role::Responder, sheet)
 }
 
-fn print_call(rt: &HostRuntime, call: &Call) -> anyhow::Result<()> {
-    let end = match call.end {
-        Role::Initiator => "I",
-        Role::Responder => "R",
-    };
+fn print_call(rt: &HostRuntime, call: &Call<Vec<u8>>) -> anyhow::Result<()> {
+    let end = call.end;
     match &call.action {
         Action::Tick(message) => {
             let bytes = message.len();
@@ -70,7 +61,7 @@ fn print_call(rt: &HostRuntime, call: &Call) -> anyhow::Result<()> {
     Ok(())
 }
 
-fn print_calls(rt: &HostRuntime, n: usize, calls: &Vec<Call>) -> anyhow::Result<()> {
+fn print_calls(rt: &HostRuntime, n: usize, calls: &[Call<Vec<u8>>]) -> anyhow::Result<()> {
     let number = calls.len();
     println!(rt; "{n} good script, {number} calls")?;
     for call in calls.iter().take(4) {
@@ -87,8 +78,8 @@ fn run_case(rt: &HostRuntime, n: usize, case: &[u8]) -> anyhow::Result<()> {
         },
         [b'T', text @ ..] => match read_script(rt.alloc(), text) {
             Ok(calls) => print_calls(rt, n, &calls),
-            Err(ScriptError::Fault(fault)) => print_fault(rt, n, fault),
-            Err(ScriptError::NoMemory) => Err(anyhow!("no memory")),
+            Err(Failure::Cause(fault)) => print_fault(rt, n, fault),
+            Err(Failure::NoMemory) => Err(anyhow!("no memory")),
         },
         _ => Err(anyhow!("a case begins with S or T")),
     }
@@ -102,14 +93,9 @@ fn input(heap: Global, rt: &HostRuntime) -> anyhow::Result<Vec<u8>> {
 
 fn run(rt: &HostRuntime) -> anyhow::Result<()> {
     let text = input(rt.alloc(), rt)?;
-    let mut rest = text.as_slice();
-    for n in 0..count(text.as_slice(), END) {
-        let (case, more) = cut(rest, END);
-        match case {
-            [b'\n', case @ ..] => run_case(rt, n, case)?,
-            _ => run_case(rt, n, case)?,
-        }
-        rest = more;
+    let cases = count(&text, END);
+    for (n, case) in text.split(|byte| *byte == END).take(cases).enumerate() {
+        run_case(rt, n, case.strip_prefix(b"\n").unwrap_or(case))?;
     }
     Ok(())
 }

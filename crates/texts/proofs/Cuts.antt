@@ -1,63 +1,99 @@
--- Laws of cutting a text, as the loops use them.
-use Rattle.std.proofs.Common.{◌≡◌, ℕ, suc, ◌+◌, ◌-◌, ◌<◌, ◌≤◌, true, false, cond, eqb, ◌≢◌, List, [], ◌∷◌, length, get_or, take, drop, sym, refl, ap, ◌∙◌, ⊎_elim, arith}
-use Rattle.std.proofs.lemmas.List.{drop_more, drop_all, take_rest}
-use Rattle.std.proofs.lemmas.Bool.{cond-true, cond-false, eq-eqb, ne_eqb, cases_eq}
-use Rattle.texts.specs.Pieces.{before, after, count_of, past}
+-- Laws of cutting a text, as the library's calls find the places.
+use Rattle.std.proofs.Common.{◌≡◌, ℕ, zero, suc, ◌+◌, ◌-◌, ◌≤◌, Bool, true, false, not, ◌||◌, cond, eqb, List, [], ◌∷◌, length, get_or, take, drop, Some, None, Option, sym, refl, ap, ◌∙◌, zero-add, arith}
+use Rattle.std.proofs.lemmas.List.{drop_all, take_all, take_rest}
+use Rattle.std.proofs.lemmas.List.Recursion.{is_count_by}
+use Rattle.std.proofs.lemmas.Bool.{ne_eqb}
+use Rattle.std.proofs.lemmas.Bool.Decides.{nat_tests}
+use Rattle.std.specs.List.{position_or_len, position, count_by, list_any, slice_get, slice_split, onto_first}
+use Rattle.std.specs.Option.{option_map, unwrap_or}
+use denote.Ref.{Bor}
+use Rattle.texts.specs.Pieces.{before, after, count_of, value_at}
 
 module _ (c : ℕ) where
-  pub before_here : (s : List ℕ) (i : ℕ) → i < length s → get_or s i 0 ≡ c → before c (drop i s) ≡ []
-  before_here s i h e = ap (before c) (drop_more s i 0 h) ∙ cond-true _ _ _ (eq-eqb _ _ e)
+  -- the first c stands where the library finds it
+  place_is : (s : List ℕ) → position_or_len (λ b. eqb b c) s ≡ length (before c s)
+  place_is [] = refl
+  place_is (b ∷ s) =
+      elim (eqb b c) as (λ t. cond (not t) (1 + position_or_len (λ x. eqb x c) s) 0 ≡ length (cond t [] (b ∷ before c s)))
+      [ true ↦ refl | false ↦ (let i = place_is s in omega (arith, i)) ]
 
-  pub before_on : (s : List ℕ) (i : ℕ) → i < length s → get_or s i 0 ≢ c → before c (drop i s) ≡ get_or s i 0 ∷ before c (drop (i + 1) s)
-  before_on s i h e = ap (before c) (drop_more s i 0 h) ∙ cond-false _ _ _ (ne_eqb _ _ e)
-
-  pub before_take : (s : List ℕ) → take (length (before c s)) s ≡ before c s
+  before_take : (s : List ℕ) → take (length (before c s)) s ≡ before c s
   before_take [] = refl
   before_take (b ∷ s) =
       elim (eqb b c) as (λ t. take (length (cond t [] (b ∷ before c s))) (b ∷ s) ≡ cond t [] (b ∷ before c s))
       [ true ↦ refl | false ↦ ap (λ v. b ∷ v) (before_take s) ]
 
-  pub before_short : (s : List ℕ) → length (before c s) ≤ length s
-  before_short [] = omega arith
-  before_short (b ∷ s) =
-      elim (eqb b c) as (λ t. length (cond t [] (b ∷ before c s)) ≤ suc (length s))
-      [ true ↦ omega arith | false ↦ (let i = before_short s in omega (arith, i)) ]
-
-  pub after_drop : (s : List ℕ) → drop (suc (length (before c s))) s ≡ after c s
+  after_drop : (s : List ℕ) → drop (suc (length (before c s))) s ≡ after c s
   after_drop [] = refl
   after_drop (b ∷ s) =
       elim (eqb b c) as (λ t. drop (suc (length (cond t [] (b ∷ before c s)))) (b ∷ s) ≡ cond t s (after c s))
       [ true ↦ refl | false ↦ after_drop s ]
 
-  -- what stands behind the first c, as the code cuts it
-  pub after_slice : (s : List ℕ) (i : ℕ) → i ≡ length (before c s) → take (length s - (i + 1)) (drop (i + 1) s) ≡ after c s
-  after_slice s i e =
-      let j : i + 1 ≡ suc (length (before c s)) = omega (arith, e) in
+  found : (s : List ℕ) (i : ℕ) → position (λ b. eqb b c) s ≡ Some i → i ≡ length (before c s)
+  found s i e = let p = place_is s in grind (arith, nat_tests)
+
+  missed : (s : List ℕ) → position (λ b. eqb b c) s ≡ None → length s ≤ length (before c s)
+  missed s e = let p = place_is s in grind (arith, nat_tests)
+
+  -- what stands before the first c and behind it, as the code cuts it
+  pub front_there : (s : List ℕ) (i : ℕ) → position (λ b. eqb b c) s ≡ Some i → take i s ≡ before c s
+  front_there s i e = ap (λ n. take n s) (found s i e) ∙ before_take s
+
+  pub back_there : (s : List ℕ) (i : ℕ) → position (λ b. eqb b c) s ≡ Some i → take (length s - (i + 1)) (drop (i + 1) s) ≡ after c s
+  back_there s i e =
+      let j : i + 1 ≡ suc (length (before c s)) = omega (arith, found s i e) in
       take_rest s (i + 1) ∙ ap (λ n. drop n s) j ∙ after_drop s
 
-  pub after_none : (s : List ℕ) → length s ≤ length (before c s) → [] ≡ after c s
-  after_none s h = sym (drop_all (suc (length (before c s))) s (omega (arith, h))) ∙ after_drop s
+  pub front_whole : (s : List ℕ) → position (λ b. eqb b c) s ≡ None → s ≡ before c s
+  front_whole s e = sym (take_all (length (before c s)) s (missed s e)) ∙ before_take s
 
-  absent : (s : List ℕ) → count_of c s ≡ 0 → length (before c s) ≡ length s
-  absent [] = λ h. refl
-  absent (b ∷ s) =
-      elim (eqb b c) as (λ t. cond t 1 0 + count_of c s ≡ 0 → length (cond t [] (b ∷ before c s)) ≡ suc (length s))
-      [ true ↦ (λ h. absurd (omega (arith, h))) | false ↦ (λ h. ap suc (absent s (omega (arith, h)))) ]
+  pub back_none : (s : List ℕ) → position (λ b. eqb b c) s ≡ None → [] ≡ after c s
+  back_none s e = sym (drop_all (suc (length (before c s))) s (omega (arith, missed s e))) ∙ after_drop s
 
-  present : (s : List ℕ) → count_of c s ≢ 0 → length (before c s) < length s
-  present [] = λ h. absurd (h refl)
-  present (b ∷ s) =
-      elim (eqb b c) as (λ t. cond t 1 0 + count_of c s ≢ 0 → length (cond t [] (b ∷ before c s)) < suc (length s))
-      [ true ↦ (λ h. omega arith) | false ↦ (λ h. let i = present s (λ e. h (omega (arith, e))) in omega (arith, i)) ]
+  pub lacks_law : (s : List ℕ) → not (list_any (λ b. eqb b c) s) ≡ eqb (count_of c s) 0
+  lacks_law [] = refl
+  lacks_law (b ∷ s) =
+      elim (eqb b c) as (λ t. not (t || list_any (λ x. eqb x c) s) ≡ eqb (cond t 1 0 + count_of c s) 0)
+      [ true ↦ sym (ne_eqb _ _ (λ e. omega arith)) | false ↦ lacks_law s ∙ ap (λ n. eqb n 0) (sym (zero-add _)) ]
 
-  -- all of s stands before the first c exactly where there is none
-  pub lacks_law : (s : List ℕ) → eqb (length (before c s)) (length s) ≡ eqb (count_of c s) 0
-  lacks_law s =
-      ⊎_elim (λ (e : count_of c s ≡ 0). eq-eqb _ _ (absent s e) ∙ sym (eq-eqb _ _ e))
-      (λ (n : count_of c s ≡ 0 → ⊥). ne_eqb _ _ (λ e. absurd (omega (arith, present s n, e))) ∙ sym (ne_eqb _ _ n)) (cases_eq (count_of c s) 0)
+  counted : (t : Bool) (n : ℕ) → cond t 1 0 + n ≡ cond t (1 + n) n
+  counted true n = refl
+  counted false n = zero-add n
 
-  pub count_on : (s : List ℕ) (i : ℕ) → i < length s → count_of c (drop i s) ≡ cond (eqb (get_or s i 0) c) 1 0 + count_of c (drop (i + 1) s)
-  count_on s i h = ap (count_of c) (drop_more s i 0 h)
+  pub count_law : (s : List ℕ) → count_of c s ≡ count_by (λ b. eqb b c) s
+  count_law = is_count_by (count_of c) (λ b. eqb b c) refl (λ b s. counted (eqb b c) (count_of c s))
 
-pub past_on : (k i : ℕ) (s : List ℕ) → i < k → past (k - i) s ≡ past (k - (i + 1)) (after 32 s)
-past_on k i s h = ap (λ n. past n s) (let e : k - i ≡ suc (k - (i + 1)) = omega arith in e)
+-- the pieces of a line, as the library splits it, are its values
+first_onto : (b : ℕ) (ps : List (List ℕ)) → get_or (onto_first b ps) 0 [] ≡ b ∷ get_or ps 0 []
+first_onto b [] = refl
+first_onto b (p ∷ ps) = refl
+
+later_onto : (b k : ℕ) (ps : List (List ℕ)) → get_or (onto_first b ps) (suc k) [] ≡ get_or ps (suc k) []
+later_onto b k [] = refl
+later_onto b k (p ∷ ps) = refl
+
+first_piece : (s : List ℕ) → get_or (slice_split (λ b. eqb b 32) s) 0 [] ≡ before 32 s
+first_piece [] = refl
+first_piece (b ∷ s) =
+    elim (eqb b 32) as (λ t. get_or (cond t ([] ∷ slice_split (λ x. eqb x 32) s) (onto_first b (slice_split (λ x. eqb x 32) s))) 0 [] ≡ cond t [] (b ∷ before 32 s))
+    [ true ↦ refl | false ↦ first_onto b _ ∙ ap (λ v. b ∷ v) (first_piece s) ]
+
+later_piece : (k : ℕ) (s : List ℕ) → get_or (slice_split (λ b. eqb b 32) s) (suc k) [] ≡ get_or (slice_split (λ b. eqb b 32) (after 32 s)) k []
+later_piece zero [] = refl
+later_piece (suc k) [] = refl
+later_piece k (b ∷ s) =
+    elim (eqb b 32) as (λ t. get_or (cond t ([] ∷ slice_split (λ x. eqb x 32) s) (onto_first b (slice_split (λ x. eqb x 32) s))) (suc k) [] ≡ get_or (slice_split (λ x. eqb x 32) (cond t s (after 32 s))) k [])
+    [ true ↦ refl | false ↦ later_onto b k _ ∙ later_piece k s ]
+
+pub piece_is : (k : ℕ) (s : List ℕ) → get_or (slice_split (λ b. eqb b 32) s) k [] ≡ value_at k s
+piece_is zero s = first_piece s
+piece_is (suc k) s = later_piece k s ∙ piece_is k (after 32 s)
+
+-- the piece at a place, or nothing where there is none
+pub piece_or : (r : Option (Bor (List ℕ))) (d : Bor (List ℕ)) (ps : List (List ℕ)) (k : ℕ) → d.now ≡ [] → option_map (λ x. x.now) r ≡ slice_get ps k → (unwrap_or r d).now ≡ get_or ps k []
+piece_or None d [] k z e = z
+piece_or None d (p ∷ ps) zero z e = absurd (cc)
+piece_or None d (p ∷ ps) (suc k) z e = piece_or None d ps k z e
+piece_or (Some x) d [] k z e = absurd (cc)
+piece_or (Some x) d (p ∷ ps) zero z e = cc
+piece_or (Some x) d (p ∷ ps) (suc k) z e = piece_or (Some x) d ps k z e

@@ -1,8 +1,12 @@
 -- Laws of the values of a line, as the loops and calls use them.
-use Rattle.std.proofs.Common.{◌≡◌, ℕ, zero, suc, ◌+◌, ◌-◌, ◌*◌, ◌^◌, ◌<◌, ◌≤◌, true, ◌&&◌, leb, ◌⊎◌, List, [], ◌∷◌, length, get_or, drop, pos, neg_ℤ, Ok, Err, sym, ap, ◌∙◌, subst, inl, inr, ⊎_elim, le_trans, le_refl, lt_of_lt_of_le, pow-suc, add-one, arith}
+use Rattle.std.proofs.Common.{◌≡◌, ℕ, ◌+◌, ◌-◌, ◌*◌, ◌^◌, ◌<◌, ◌≤◌, min, true, ◌&&◌, ◌⊎◌, List, [], ◌∷◌, length, get_or, drop, pos, neg_ℤ, Ok, Err, sym, refl, ap, ◌∙◌, subst, lt_of_lt_of_le, pow-suc, add-one, arith}
+use Rattle.std.proofs.lemmas.List.Recursion.{same_from_clauses}
+use Rattle.std.specs.Char.{is_ascii_digit, is_ascii_graphic}
+use Rattle.std.specs.List.{list_all, fold}
+use Rattle.texts.specs.Words.{printable}
 use native.Mathlib.Nat.{pow-le-pow_right}
-use Rattle.std.proofs.lemmas.List.{drop_more, drop_all}
-use Rattle.std.proofs.lemmas.Bool.{cond-true, eq-eqb, and_parts, leb-true, cases_lt}
+use Rattle.std.proofs.lemmas.List.{drop_more}
+use Rattle.std.proofs.lemmas.Bool.{cond-true, eq-eqb}
 use Rattle.std.proofs.lemmas.Bool.Decides.{nat_tests}
 use Rattle.terms.specs.Outcomes.{then}
 use Rattle.texts.specs.declared.fault.Fault.{Fault}
@@ -10,41 +14,25 @@ use Rattle.texts.specs.declared.fault.Fault.TheVariants.{OutOfRange}
 use Rattle.texts.specs.declared.numbers.Range.{Range}
 use Rattle.texts.specs.Numbers.{digits, is_number, value_of, read_number, read_digit, hex_on, read_hex, read_below}
 
-pub digits_on : (s : List ℕ) (i : ℕ) → i < length s → digits (drop i s) ≡ ((leb 48 (get_or s i 0) && leb (get_or s i 0) 57) && digits (drop (i + 1) s))
-digits_on s i h = ap digits (drop_more s i 0 h)
+pub digits_law : (s : List ℕ) → list_all is_ascii_digit s ≡ digits s
+digits_law = same_from_clauses (list_all is_ascii_digit) digits (λ b r. is_ascii_digit b && r) refl (λ _ _. refl) (λ _ _. refl)
 
-pub digit_at : (s : List ℕ) (i : ℕ) → i < length s → digits s ≡ true → (48 ≤ get_or s i 0) × (get_or s i 0 ≤ 57)
-digit_at [] i h e = absurd (omega arith)
-digit_at (b ∷ s) zero h e =
-    let p = and_parts _ _ (and_parts _ _ e).0 in
-    (leb-true 48 b p.0, leb-true b 57 p.1)
-digit_at (b ∷ s) (suc i) h e = digit_at s i (omega arith) (and_parts _ _ e).1
+pub printable_law : (s : List ℕ) → list_all is_ascii_graphic s ≡ printable s
+printable_law = same_from_clauses (list_all is_ascii_graphic) printable (λ b r. is_ascii_graphic b && r) refl (λ _ _. refl) (λ _ _. refl)
 
-pub value_on : (v : ℕ) (s : List ℕ) (i : ℕ) → i < length s → value_of v (drop i s) ≡ value_of (v * 10 + (get_or s i 0 - 48)) (drop (i + 1) s)
-value_on v s i h = ap (value_of v) (drop_more s i 0 h)
+-- one more digit, in 64 bits
+abbrev pub saturated : ℕ → ℕ → ℕ
+saturated n b = min (min (n * 10) (2 ^ 64 - 1) + (b - 48)) (2 ^ 64 - 1)
 
--- more digits make no smaller number
-pub value_grows : (s : List ℕ) (v : ℕ) → v ≤ value_of v s
-value_grows [] v = le_refl v
-value_grows (b ∷ s) v = le_trans (let h : v ≤ v * 10 + (b - 48) = omega arith in h) (value_grows s (v * 10 + (b - 48)))
+one_more : (v b : ℕ) → saturated (min v (2 ^ 64 - 1)) b ≡ min (v * 10 + (b - 48)) (2 ^ 64 - 1)
+one_more v b = omega arith
 
--- n is the number so far, or both are past 32 bits
-abbrev pub Kept : List ℕ → ℕ → ℕ → Type 0
-Kept s i n = (n < 2 ^ 32 → value_of n (drop i s) ≡ value_of 0 s) × (2 ^ 32 ≤ n → 2 ^ 32 ≤ value_of 0 s) × (n < 2 ^ 36)
+value_on : (s : List ℕ) (v : ℕ) → fold saturated (min v (2 ^ 64 - 1)) s ≡ min (value_of v s) (2 ^ 64 - 1)
+value_on [] v = refl
+value_on (b ∷ s) v = ap (λ n. fold saturated n s) (one_more v b) ∙ value_on s (v * 10 + (b - 48))
 
-module _ (s : List ℕ) (i n : ℕ) where
-  pub kept_on : i < length s → get_or s i 0 ≤ 57 → Kept s i n → n < 2 ^ 32 → Kept s (i + 1) (n * 10 + (get_or s i 0 - 48))
-  kept_on h b k low =
-      let m = n * 10 + (get_or s i 0 - 48) in
-      let t : value_of m (drop (i + 1) s) ≡ value_of 0 s = sym (value_on n s i h) ∙ k.0 low in
-      (λ _. t, λ high. le_trans high (subst (λ v. m ≤ v) t (value_grows (drop (i + 1) s) m)), omega arith)
-
-  pub kept_over : Kept s i n → 2 ^ 32 ≤ n → Kept s (i + 1) n
-  kept_over k high = (λ low. absurd (omega arith), k.1, k.2)
-
-  pub kept_all : length s ≤ i → Kept s i n → (n ≡ value_of 0 s) ⊎ ((2 ^ 32 ≤ n) × (2 ^ 32 ≤ value_of 0 s))
-  kept_all h k =
-      ⊎_elim (λ low. inl (sym (ap (value_of n) (drop_all i s h)) ∙ k.0 low)) (λ high. inr (high, k.1 high)) (cases_lt n (2 ^ 32))
+pub value_law : (s : List ℕ) → fold saturated 0 s ≡ min (value_of 0 s) (2 ^ 64 - 1)
+value_law s = value_on s 0
 
 pub out_of : (s : List ℕ) (r : Range) → is_number s ≡ true → (value_of 0 s < r.low) ⊎ (r.high < value_of 0 s) → Err OutOfRange ≡ read_number r s
 out_of s r e o = grind (arith, nat_tests)

@@ -1,10 +1,12 @@
 -- Hexadecimal digits and numbers below zero: written and read back, read and written again.
-use Rattle.std.proofs.Common.{◌≡◌, ℕ, zero, suc, ◌+◌, ◌*◌, ◌/◌, ◌%◌, ◌^◌, ◌<◌, ◌≤◌, Bool, true, false, cond, eqb, List, [], ◌∷◌, length, get_or, drop, ℤ, pos, negsuc, neg_ℤ, ◌≤ℤ◌, Ok, Err, decimal, Result, sym, refl, ap, ◌∙◌, subst, mod-lt, pow-suc, div-add-mod', div-one, arith}
+use Rattle.std.proofs.Common.{◌≡◌, ℕ, zero, suc, ◌+◌, ◌-◌, ◌*◌, ◌/◌, ◌%◌, ◌^◌, ◌<◌, ◌≤◌, Bool, true, false, cond, eqb, ◌≢◌, List, [], ◌∷◌, ◌++◌, replicate, length, get_or, drop, ℤ, pos, negsuc, neg_ℤ, ◌≤ℤ◌, Ok, Err, decimal, Result, sym, refl, ap, ◌∙◌, subst, mod-lt, pow-suc, div-add-mod', div-one, append-nil, length-append, arith}
+use native.Mathlib.Numerals.{unary_clauses}
 use native.Mathlib.Nat.{div-div-eq-div-mul, div-eq_of_lt}
 use Rattle.std.proofs.lemmas.Int.{ints}
-use Rattle.std.proofs.lemmas.Bool.{ne_eqb, eqb-true}
+use Rattle.std.proofs.lemmas.List.{length-replicate}
+use Rattle.std.proofs.lemmas.Bool.{ne_eqb, eqb-true, eqb-false}
 use Rattle.std.proofs.lemmas.Bool.Decides.{nat_tests}
-use Rattle.std.specs.Fmt.{signed_decimal}
+use Rattle.std.specs.Fmt.{signed_decimal, digit_glyph, digits_onto, digits, format_spec, padded_integral, char_count}
 use Rattle.terms.specs.Outcomes.{then}
 use Rattle.texts.specs.declared.fault.Fault.{Fault}
 use Rattle.texts.specs.declared.fault.Fault.TheVariants.{WrongForm, OutOfRange}
@@ -61,6 +63,60 @@ pub hex_reads : (n : ℕ) → n < 2 ^ 32 → read_hex (hex_text n) ≡ Ok n
 hex_reads n h =
     let z : n / 16 ^ 8 ≡ 0 = div-eq_of_lt {n = n} {m = 16 ^ 8} h in
     subst (λ m. hex_on m (hex_digits 8 n) ≡ Ok n) z (hex_on_reads 8 n)
+
+-- what the library shows as hexadecimal digits reads as the number, and zeros in front change nothing
+glyph_reads : (d : ℕ) → d < 16 → read_digit (digit_glyph true d) ≡ Ok d
+glyph_reads d h = grind (arith, nat_tests)
+
+glyph_on : (v d : ℕ) (s : List ℕ) → d < 16 → hex_on v (digit_glyph true d ∷ s) ≡ hex_on (v * 16 + d) s
+glyph_on v d s h = then_at (λ x. hex_on (v * 16 + x) s) (glyph_reads d h)
+
+shown_reads : (k n : ℕ) (s : List ℕ) → n < 16 ^ k → hex_on 0 (digits_onto k 16 true n s) ≡ hex_on n s
+shown_reads zero n s h = ap (λ v. hex_on v s) (let z : 0 ≡ n = omega arith in z)
+shown_reads (suc k) n s h =
+    let low = mod-lt n {m = 16} (omega arith) in
+    let small : n < 16 ^ k * 16 = subst (λ m. n < m) (pow-suc 16 k) h in
+    (elim (eqb (n / 16) 0) as (λ t. eqb (n / 16) 0 ≡ t → hex_on 0 (cond t (digit_glyph true (n % 16) ∷ s) (digits_onto k 16 true (n / 16) (digit_glyph true (n % 16) ∷ s))) ≡ hex_on n s) [
+      | true ↦ λ e. glyph_on 0 (n % 16) s low ∙ ap (λ v. hex_on v s) (let z : 0 * 16 + n % 16 ≡ n = omega (arith, eqb-true _ _ e) in z)
+      | false ↦ λ e. shown_reads k (n / 16) (digit_glyph true (n % 16) ∷ s) (omega arith) ∙ glyph_on (n / 16) (n % 16) s low
+          ∙ ap (λ v. hex_on v s) (let z : n / 16 * 16 + n % 16 ≡ n = omega arith in z)
+    ]) refl
+
+shown_shorter : (k j n : ℕ) (s : List ℕ) → n < 16 ^ j * 16 → n / 16 ≢ 0 → (0 < j → n / 16 < 16 ^ j → length (digits_onto k 16 true (n / 16) (digit_glyph true (n % 16) ∷ s)) ≤ j + suc (length s))
+    → length (digits_onto k 16 true (n / 16) (digit_glyph true (n % 16) ∷ s)) ≤ suc j + length s
+shown_shorter k zero n s h z f = absurd (omega arith)
+shown_shorter k (suc j) n s h z f = let i = f (omega arith) (omega arith) in omega arith
+
+shown_short : (k j n : ℕ) (s : List ℕ) → 0 < j → n < 16 ^ j → length (digits_onto k 16 true n s) ≤ j + length s
+shown_short zero j n s p h = omega arith
+shown_short (suc k) zero n s p h = absurd (omega arith)
+shown_short (suc k) (suc j) n s p h =
+    let small : n < 16 ^ j * 16 = subst (λ m. n < m) (pow-suc 16 j) h in
+    (elim (eqb (n / 16) 0) as (λ t. eqb (n / 16) 0 ≡ t → length (cond t (digit_glyph true (n % 16) ∷ s) (digits_onto k 16 true (n / 16) (digit_glyph true (n % 16) ∷ s))) ≤ suc j + length s) [
+      | true ↦ λ e. omega arith
+      | false ↦ λ e. shown_shorter k j n s small (eqb-false _ _ e) (shown_short k j (n / 16) (digit_glyph true (n % 16) ∷ s))
+    ]) refl
+
+zeros_read : (m : ℕ) (s : List ℕ) → hex_on 0 (replicate m 48 ++ s) ≡ hex_on 0 s
+zeros_read zero s = refl
+zeros_read (suc m) s = zeros_read m s
+
+zero_padded : (s : List ℕ) → padded_integral (format_spec 32 0 4 8 (2 ^ 64 - 1)) false [] s ≡ replicate (8 - length s) 48 ++ s
+unfolding padded_integral char_count
+zero_padded s = simp unary_clauses (rw (append-nil s))
+
+digits_read : (n : ℕ) → n < 2 ^ 32 → (hex_on 0 (digits 16 true n) ≡ Ok n) × (length (digits 16 true n) ≤ 8)
+unfolding digits
+digits_read n h = (shown_reads 64 n [] (omega arith), shown_short 64 8 n [] (omega arith) (omega arith))
+
+-- so eight digits with zeros in front are the number's text
+pub hex_shown : (n : ℕ) → n < 2 ^ 32 → padded_integral (format_spec 32 0 4 8 (2 ^ 64 - 1)) false [] (digits 16 true n) ≡ hex_text n
+hex_shown n h =
+    let s = digits 16 true n in
+    let d = digits_read n h in
+    let t = replicate (8 - length s) 48 ++ s in
+    let long : length t ≡ 8 = length-append (replicate (8 - length s) 48) s ∙ omega (arith, length-replicate {A = ℕ} (8 - length s) 48, d.1) in
+    zero_padded s ∙ sym (subst (λ k. hex_digits k n ≡ t) long (hex_on_back t 0 n (zeros_read (8 - length s) s ∙ d.0)).0)
 
 hex_digits_free : (c : ℕ) → c < 48 → (k n : ℕ) → count_of c (hex_digits k n) ≡ 0
 hex_digits_free c h zero n = refl

@@ -1,6 +1,9 @@
 // Why a file is refused, and where. A fault rises from a value to its line to its file; each level adds its place.
-ghost use Rattle.std.specs.Prelude.{◌≡◌};
-ghost use Rattle.texts.specs.Faults.{fault_number, at_column, on_line};
+ghost use Rattle.std.specs.Prelude.{◌≡◌, Some};
+ghost use Rattle.texts.specs.Faults.{fault_number, fault_at, whole_line, fault_on, file_word, fault_text};
+
+use std::fmt;
+use terms::failure::Cause;
 
 #[derive(Clone, Copy)]
 pub enum Fault {
@@ -16,18 +19,35 @@ pub enum Fault {
     DifferingBits,
 }
 
-impl Fault {
-    // The number under which the fault is reported.
-    pub fn number(self) -> u8
-        ensures { result ≡ fault_number self }
-    {
-        match self {
+// The number under which a fault is reported.
+impl From<Fault> for u8 {
+    ghost from_gives = { λ fault n. n ≡ fault_number fault };
+
+    fn from(fault: Fault) -> u8 {
+        match fault {
             Fault::NamesDiffer => 1,
             Fault::WrongCount => 2,
             Fault::WrongForm => 3,
             Fault::OutOfRange => 4,
             Fault::DifferingBits => 5,
         }
+    }
+}
+
+impl Fault {
+    // The fault of the value in a column.
+    pub fn at(self, column: u8) -> LineFault
+        ensures { result ≡ fault_at column self }
+    {
+        let fault = self;
+        LineFault { fault, column }
+    }
+
+    // The fault of a whole line.
+    pub fn whole_line(self) -> LineFault
+        ensures { result ≡ whole_line self }
+    {
+        self.at(0)
     }
 }
 
@@ -38,11 +58,37 @@ pub struct LineFault {
     pub column: u8,
 }
 
+impl LineFault {
+    // The fault of a line of a file.
+    pub fn on(self, file: File, line: u16) -> FileFault
+        ensures { result ≡ fault_on file line self }
+    {
+        let LineFault { fault, column } = self;
+        FileFault {
+            fault,
+            file,
+            line,
+            column,
+        }
+    }
+}
+
 // The files that a railway writes.
 #[derive(Clone, Copy)]
 pub enum File {
     Sheet,
     Script,
+}
+
+impl fmt::Display for File {
+    ghost output = { λ file. Some (file_word file) };
+
+    fn fmt<W: fmt::Write>(&self, f: &mut fmt::Formatter<W>) -> fmt::Result {
+        match self {
+            File::Sheet => f.write_str("sheet"),
+            File::Script => f.write_str("script"),
+        }
+    }
 }
 
 // A fault in a file, by its line from 1.
@@ -54,39 +100,20 @@ pub struct FileFault {
     pub column: u8,
 }
 
-// A value's answer becomes its line's, by the column.
-pub trait At<T> {
-    fn at(self, column: u8) -> Result<T, LineFault>;
-}
+impl Cause for FileFault {}
 
-impl<T> At<T> for Result<T, Fault> {
-    fn at(self, column: u8) -> Result<T, LineFault>
-        ensures { result ≡ at_column self column }
-    {
-        match self {
-            Ok(x) => Ok(x),
-            Err(fault) => Err(LineFault { fault, column }),
-        }
-    }
-}
+// Shown on one line, without its end.
+impl fmt::Display for FileFault {
+    ghost output = { λ f. Some (fault_text f) };
 
-// A line's answer becomes its file's, by the file and the line.
-pub trait On<T> {
-    fn on(self, file: File, line: u16) -> Result<T, FileFault>;
-}
-
-impl<T> On<T> for Result<T, LineFault> {
-    fn on(self, file: File, line: u16) -> Result<T, FileFault>
-        ensures { result ≡ on_line self file line }
-    {
-        match self {
-            Ok(x) => Ok(x),
-            Err(LineFault { fault, column }) => Err(FileFault {
-                fault,
-                file,
-                line,
-                column,
-            }),
-        }
+    fn fmt<W: fmt::Write>(&self, f: &mut fmt::Formatter<W>) -> fmt::Result {
+        let number = u8::from(self.fault);
+        let FileFault {
+            file,
+            line,
+            column,
+            ..
+        } = *self;
+        write!(f, "fault {number} {file} {line} {column}")
     }
 }

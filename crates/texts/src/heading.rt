@@ -4,22 +4,15 @@ ghost use Rattle.texts.specs.Headings.{read_names, read_end};
 
 use super::cutting::{cut, lacks};
 use super::fault::{Fault, LineFault};
-use super::words::same;
+use super::words::is;
 
 // That the text begins with a line of just these names.
 pub fn names(text: &[u8], wanted: &str) -> Result<(), LineFault>
     ensures { result ≡ read_names wanted.now text.now }
 {
-    let differ = LineFault {
-        fault: Fault::NamesDiffer,
-        column: 0,
-    };
-    if lacks(text, b'\n') {
-        return Err(differ);
-    }
     let (line, _) = cut(text, b'\n');
-    if !same(line, wanted.as_bytes()) {
-        return Err(differ);
+    if lacks(text, b'\n') || !is(line, wanted) {
+        return Err(Fault::NamesDiffer.whole_line());
     }
     Ok(())
 }
@@ -29,10 +22,7 @@ pub fn ended(text: &[u8]) -> Result<(), LineFault>
     ensures { result ≡ read_end text.now }
 {
     if lacks(text, b'\n') {
-        return Err(LineFault {
-            fault: Fault::WrongCount,
-            column: 0,
-        });
+        return Err(Fault::WrongCount.whole_line());
     }
     Ok(())
 }

@@ -1,6 +1,6 @@
 // The values of a line: numbers in base ten within a range, numbers below zero, eight hexadecimal digits.
-ghost use Rattle.std.specs.Prelude.{◌≡◌, ◌+◌, ◌<◌, ◌≤◌, IfOk};
-ghost use Rattle.texts.specs.Numbers.{digits, proper, is_number, read_number, read_digit, read_hex, read_below, Within};
+ghost use Rattle.std.specs.Prelude.{◌≡◌, ◌<◌, ◌-◌, ◌^◌, min, IfOk};
+ghost use Rattle.texts.specs.Numbers.{digits, proper, is_number, within, value_of, read_number, read_digit, read_hex, read_below, Within};
 
 use super::fault::Fault;
 
@@ -11,16 +11,13 @@ pub struct Range {
     pub high: u32,
 }
 
-// Whether each byte is a digit.
-fn all_digits(s: &[u8]) -> bool
-    ensures { result ≡ digits s.now }
-{
-    for x in s {
-        if *x < b'0' || b'9' < *x {
-            return false;
-        }
+impl Range {
+    // Whether a number lies within the range.
+    pub fn contains(self, n: u64) -> bool
+        ensures { result ≡ within self n }
+    {
+        u64::from(self.low) <= n && n <= u64::from(self.high)
     }
-    true
 }
 
 // Whether there is a digit, and no zero in front of others.
@@ -34,14 +31,28 @@ fn is_proper(s: &[u8]) -> bool
     }
 }
 
+// Whether each byte is a digit.
+fn all_digits(s: &[u8]) -> bool
+    ensures { result ≡ digits s.now }
+{
+    s.iter().all(|b| b.is_ascii_digit())
+}
+
 // Whether `s` is a number.
 fn is_number(s: &[u8]) -> bool
     ensures { result ≡ is_number s.now }
 {
-    if !all_digits(s) {
-        return false;
-    }
-    is_proper(s)
+    all_digits(s) && is_proper(s)
+}
+
+// The number that digits write; past 64 bits the greatest, which is too large for any range.
+fn value_of(digits: &[u8]) -> u64
+    ensures { result ≡ min (value_of 0 digits.now) (2 ^ 64 - 1) }
+{
+    digits.iter().fold(0, |n: u64, digit| {
+        n.saturating_mul(10)
+            .saturating_add(u64::from(digit.saturating_sub(b'0')))
+    })
 }
 
 // A number within its range.
@@ -52,14 +63,8 @@ pub(crate) fn number(s: &[u8], range: Range) -> Result<u32, Fault>
     if !is_number(s) {
         return Err(Fault::WrongForm);
     }
-    // past 32 bits the number stays where it is: too large for any range
-    let mut n = 0u64;
-    for x in s {
-        if n < 0x1_0000_0000 {
-            n = n * 10 + u64::from(*x - b'0');
-        }
-    }
-    if n < u64::from(range.low) || u64::from(range.high) < n {
+    let n = value_of(s);
+    if !range.contains(n) {
         return Err(Fault::OutOfRange);
     }
     Ok(n as u32)
@@ -96,16 +101,8 @@ pub(crate) fn below_zero(s: &[u8], range: Range) -> Result<i64, Fault>
     ensures { result ≡ read_below range s.now }
 {
     match s {
-        [b'-', digits @ ..] => {
-            let n = number(digits, range)?;
-            Ok(-i64::from(n))
-        }
-        _ => {
-            if is_number(s) {
-                Err(Fault::OutOfRange)
-            } else {
-                Err(Fault::WrongForm)
-            }
-        }
+        [b'-', digits @ ..] => number(digits, range).map(|n| -i64::from(n)),
+        _ if is_number(s) => Err(Fault::OutOfRange),
+        _ => Err(Fault::WrongForm),
     }
 }

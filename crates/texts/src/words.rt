@@ -3,38 +3,23 @@ ghost use Rattle.std.specs.Prelude.{◌≡◌};
 ghost use Rattle.std.specs.Str.{bytes_eq};
 ghost use Rattle.texts.specs.Words.{printable, is_word};
 
-// Whether two texts are the same.
-pub fn same(a: &[u8], b: &[u8]) -> bool
-    ensures { result ≡ bytes_eq a.now b.now }
-{
-    a == b
-}
-
 // Whether a text is just this word.
 pub fn is(text: &[u8], word: &str) -> bool
     ensures { result ≡ bytes_eq text.now word.now }
 {
-    same(text, word.as_bytes())
+    text == word.as_bytes()
 }
 
 // Whether each byte is printable and no space.
 fn is_printable(s: &[u8]) -> bool
     ensures { result ≡ printable s.now }
 {
-    for x in s {
-        if *x < 0x21 || 0x7E < *x {
-            return false;
-        }
-    }
-    true
+    s.iter().all(|b| b.is_ascii_graphic())
 }
 
 // Whether `s` is a word of at most so many bytes.
 pub fn is_word(s: &[u8], longest: usize) -> bool
     ensures { result ≡ is_word longest s.now }
 {
-    if s.is_empty() || longest < s.len() {
-        return false;
-    }
-    is_printable(s)
+    (1..=longest).contains(&s.len()) && is_printable(s)
 }

@@ -27,8 +27,9 @@ loop-line-preserved c =
 
 pub returns-then-not-is_empty : goal.returns-then-not-is_empty
 returns-then-not-is_empty c =
-    reading_over (all_said c.loop-line.calls) c.loop-line.line c.loop-line.rest.now c.args.text.now c.loop-line.invariant
-    (omega arith) (eqb-false _ _ (sym c.if-not-is_empty.ensures))
+    rw (c.on.ensures, c.whole_line-fault.ensures)
+    (reading_over (all_said c.loop-line.calls) c.loop-line.line c.loop-line.rest.now c.args.text.now c.loop-line.invariant
+    (omega arith) (eqb-false _ _ (sym c.if-not-is_empty.ensures)))
 
 pub returns : goal.returns
 returns c =

@@ -1,9 +1,12 @@
-use Rattle.std.proofs.Common.{◌+◌, ◌-◌, sym, ap, ◌∙◌, arith}
-use Rattle.texts.specs.Pieces.{past}
-use Rattle.texts.proofs.Cuts.{past_on}
+use Rattle.std.proofs.Common.{eqb, refl, ◌∙◌, rules, tests}
+use Rattle.std.proofs.lemmas.Iterator.Consumers.{nth_from_yields_List}
+use Rattle.std.proofs.lemmas.Iterator.Splits.{YieldsList-from_slice_split}
+use Rattle.texts.proofs.Cuts.{piece_is, piece_or}
 use Rattle.texts.proofs.cutting.value.Goals as goal
 
-pub loop-i-preserved : goal.loop-i-preserved
-loop-i-preserved c =
-    ap (past (c.args.k - (c.loop-i._i + 1))) c.cut.ensures.back
-    ∙ sym (past_on c.args.k c.loop-i._i c.loop-i.rest.now (omega arith)) ∙ c.loop-i.invariant
+pub returns : goal.returns
+returns c =
+    let line = c.args.line.now in
+    let k = nth_from_yields_List c.nth.result c.nth.new.self c.args.k c.nth.ensures.ran
+    (YieldsList-from_slice_split _ (λ b. eqb b 32) line c.split.ensures.rest c.split.ensures.done c.split.ensures.closure (λ x b q k. search (rules, tests))) in
+    rw c.unwrap_or.ensures (piece_or _ _ _ c.args.k refl k ∙ piece_is c.args.k line)

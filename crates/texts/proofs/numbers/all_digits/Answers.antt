@@ -1,19 +1,11 @@
-use Rattle.std.proofs.Common.{sym, ◌∙◌, arith}
-use Rattle.std.proofs.lemmas.List.{at_drop_all}
-use Rattle.std.proofs.lemmas.Bool.Decides.{nat_tests}
-use Rattle.texts.specs.Numbers.{digits}
-use Rattle.texts.proofs.Digits.{digits_on}
+use Rattle.std.proofs.Common.{◌∙◌, rules, tests}
+use Rattle.std.proofs.lemmas.Iterator.{YieldsList-from_slice}
+use Rattle.std.proofs.lemmas.Iterator.Search.{all_from_yields_List}
+use Rattle.std.specs.Char.{is_ascii_digit}
+use Rattle.texts.proofs.Digits.{digits_law}
 use Rattle.texts.proofs.numbers.all_digits.Goals as goal
 
-pub returns-then-x-lt48 : goal.returns-then-x-lt48
-returns-then-x-lt48 c =
-    let e = digits_on c.args.s.now c.loop-x.x-index (omega arith) in
-    grind (arith, nat_tests)
-
-pub loop-x-preserved : goal.loop-x-preserved
-loop-x-preserved c =
-    let e = digits_on c.args.s.now c.loop-x.x-index (omega arith) in
-    grind (arith, nat_tests)
-
 pub returns : goal.returns
-returns c = sym (at_drop_all digits c.args.s.now c.loop-x.x-index (omega arith)) ∙ c.loop-x.invariant
+returns c =
+    all_from_yields_List is_ascii_digit _ _ c.all.result c.all.ensures.ran (YieldsList-from_slice c.args.s.now (cc)) (λ x b q k. search (rules, tests))
+    ∙ digits_law c.args.s.now
