@@ -59,12 +59,12 @@ fn codes(reason: u8, sub_reason: u8) -> ReasonCodes
     ReasonCodes { reason, sub_reason }
 }
 
-impl Reason {
-    // The two code bytes of the reason.
-    pub fn codes(self) -> ReasonCodes
-        ensures { result ≡ reason_codes self }
-    {
-        match self {
+// The two code bytes of a reason.
+impl From<Reason> for ReasonCodes {
+    ghost from_gives = { λ reason bytes. bytes ≡ reason_codes reason };
+
+    fn from(reason: Reason) -> ReasonCodes {
+        match reason {
             Reason::Stopped => codes(0, 0),
             Reason::WrongSession => codes(4, 4),
             Reason::UnexpectedFrame => codes(5, 1),
@@ -89,13 +89,13 @@ impl Reason {
     }
 }
 
-impl Release {
-    // The two code bytes of the release.
-    pub fn codes(self) -> ReasonCodes
-        ensures { result ≡ release_codes self }
-    {
-        match self {
-            Release::Own(reason) => reason.codes(),
+// The two code bytes of a release.
+impl From<Release> for ReasonCodes {
+    ghost from_gives = { λ release bytes. bytes ≡ release_codes release };
+
+    fn from(release: Release) -> ReasonCodes {
+        match release {
+            Release::Own(reason) => ReasonCodes::from(reason),
             Release::Far(codes) => codes,
         }
     }
