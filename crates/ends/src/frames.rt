@@ -83,7 +83,7 @@ impl End {
         ensures value { result ≡ length (release_frame (end_value self.now) reason) }
         ensures after { out.new ≡ overlay (release_frame (end_value self.now) reason) out.old }
     {
-        lay_frame(di(self.role.far(), reason.codes()), out)
+        lay_frame(di(self.role.far(), reason.into()), out)
     }
 
     // A data frame towards the far end, sealed with the word.

@@ -77,7 +77,12 @@ impl Seats {
     }
 
     // One call.
-    fn step<C: Carrier>(&mut self, carrier: &mut C, call: &Call<Vec<u8>>, buffers: &mut Buffers) -> Answer
+    fn step<C: Carrier>(
+        &mut self,
+        carrier: &mut C,
+        call: &Call<Vec<u8>>,
+        buffers: &mut Buffers,
+    ) -> Answer
         ensures { Steps call.now (link_value (C.meaning carrier.old) self.old) (link_value (C.meaning carrier.new) self.new) buffers.new.fetched result }
     {
         self.0.at_mut(call.end).act(carrier, &call.action, buffers)

@@ -1,6 +1,6 @@
 -- What a call says, apart from where its message is kept.
 use Rattle.std.specs.Borrow.{Bor}
-use Rattle.std.specs.Prelude.{◌≡◌, ℕ, List, [], map, Ok, Err, vec_items, Result, Vec}
+use Rattle.std.specs.Prelude.{◌≡◌, ℕ, List, [], map, Ok, Err, vec_items, codes, Result, Vec}
 use Rattle.std.specs.declared.alloc.Global.{Global}
 use Rattle.terms.specs.declared.failure.Failure.{Failure}
 use Rattle.terms.specs.declared.failure.Failure.TheVariants.{Cause, NoMemory}
@@ -8,6 +8,19 @@ use Rattle.texts.specs.declared.fault.FileFault.{FileFault}
 use Rattle.params.specs.declared.call.Action.{Action}
 use Rattle.params.specs.declared.call.Action.TheVariants as action
 use Rattle.params.specs.declared.call.Call.{Call}
+
+-- the word of an action, as scripts and listings have it
+abbrev pub action_word : {M : Type 0} → Action M → List ℕ
+action_word (action.Tick m) = codes "tick"
+action_word action.Fetch = codes "fetch"
+action_word action.Stop = codes "stop"
+
+-- a call that owns its message, and what it tells its end to do
+abbrev pub OwnAction : Type 0
+OwnAction = Action (Vec ℕ Global)
+
+abbrev pub OwnCall : Type 0
+OwnCall = Call (Vec ℕ Global)
 
 -- which end does what, with which message
 abbrev pub Said : Type 0
@@ -24,7 +37,7 @@ abbrev pub calling : {M N : Type 0} → (M → N) → Call M → Call N
 calling f c = record { end = c.end; action = carrying f c.action }
 
 -- what a call with a message of its own says
-abbrev pub said : Call (Vec ℕ Global) → Said
+abbrev pub said : OwnCall → Said
 said c = calling vec_items c
 
 -- the message of an action; a fetch and a stop have none
@@ -52,5 +65,5 @@ Answers f x P (Err (Cause e)) = x ≡ Err e
 Answers f x P (Err NoMemory) = P
 
 -- the calls in a list, each as it was said
-abbrev pub all_said : Vec (Call (Vec ℕ Global)) Global → List Said
+abbrev pub all_said : Vec OwnCall Global → List Said
 all_said v = map said (vec_items v)

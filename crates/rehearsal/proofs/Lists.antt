@@ -2,13 +2,14 @@
 use Rattle.std.proofs.Common.{◌≡◌, ℕ, suc, ◌+◌, ◌<◌, List, [], ◌∷◌, ◌++◌, map, length, get_or, take, sym, refl, ap, ◌∙◌, ap₂, append_assoc, append-nil, add-zero, arith, length-append, length-drop, length-take}
 use Rattle.std.proofs.lemmas.List.{length-map, take_more}
 use Rattle.carrier.specs.Rules.{Meaning}
+use Rattle.params.specs.Calls.{OwnCall}
 use Rattle.params.specs.Made.{Sheet}
 use Rattle.link.specs.declared.runs.Line.{Line}
 use Rattle.link.specs.declared.runs.Numbers.{Numbers}
 use Rattle.link.specs.Times.{History, new, ◌▸◌}
 use Rattle.link.specs.Runs.{Moment}
 use Rattle.link.specs.Tells.{deeds, told, asked_of, told_by, RunMade}
-use Rattle.rehearsal.specs.Listing.{OwnCall, shown_byte, got_text, entry_text, entries, heading, listing_text}
+use Rattle.rehearsal.specs.Listing.{shown_byte, got_text, entry_text, entries, heading, listing_text}
 
 entries_push : (n : ℕ) (cs : List OwnCall) (ls : List Line) (c : OwnCall) (l : Line) → length ls ≡ length cs
     → entries n (cs ++ (c ∷ [])) (ls ++ (l ∷ [])) ≡ entries n cs ls ++ entry_text (n + length cs) c l

@@ -1,9 +1,7 @@
 -- The text of a listing.
-use Rattle.std.specs.Prelude.{ℕ, suc, cond, List, [], ◌∷◌, ◌++◌, map, vec_items, codes, decimal, nat_lt, Vec}
-use Rattle.std.specs.declared.alloc.Global.{Global}
+use Rattle.std.specs.Prelude.{ℕ, suc, cond, List, [], ◌∷◌, ◌++◌, map, vec_items, codes, decimal, nat_lt}
 use Rattle.terms.specs.Roles.{letter}
-use Rattle.params.specs.declared.call.Call.{Call}
-use Rattle.params.specs.Calls.{action_word}
+use Rattle.params.specs.Calls.{OwnCall, action_word}
 use Rattle.states.specs.States.{state_word}
 use Rattle.link.specs.declared.runs.Line.{Line}
 use Rattle.rehearsal.specs.Columns.{why_of, why_text}
@@ -16,10 +14,6 @@ shown_byte b = cond (nat_lt b 128) b 63
 abbrev pub got_text : List ℕ → List ℕ
 got_text [] = codes "-"
 got_text (b ∷ bs) = shown_byte b ∷ map shown_byte bs
-
--- a call of a script
-abbrev pub OwnCall : Type 0
-OwnCall = Call (Vec ℕ Global)
 
 -- the columns of one line, with a space, 32, between them, and a line feed, 10, behind them
 abbrev pub entry_text : ℕ → OwnCall → Line → List ℕ

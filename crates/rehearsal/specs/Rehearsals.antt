@@ -8,7 +8,7 @@ use Rattle.carrier.specs.Rules.{Meaning}
 use Rattle.carrier.specs.Wires.{Fresh, wire_meaning}
 use Rattle.texts.specs.declared.fault.FileFault.{FileFault}
 use Rattle.params.specs.declared.values.Values.{Values}
-use Rattle.params.specs.Calls.{Said, said}
+use Rattle.params.specs.Calls.{OwnCall, Said, said}
 use Rattle.params.specs.Made.{Sheet, both_values}
 use Rattle.params.specs.Scripts.{read_script}
 use Rattle.params.specs.Sheets.{read_sheet}
@@ -16,7 +16,7 @@ use Rattle.link.specs.declared.runs.Line.{Line}
 use Rattle.link.specs.declared.runs.Numbers.{Numbers}
 use Rattle.link.specs.Tells.{RunMade, told_by}
 use Rattle.rehearsal.specs.Faults.{fault_line}
-use Rattle.rehearsal.specs.Listing.{OwnCall, listing_text}
+use Rattle.rehearsal.specs.Listing.{listing_text}
 
 -- Ra is 3, Rb is 1, Rc is 2
 abbrev pub session_numbers : Numbers

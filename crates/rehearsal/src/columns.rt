@@ -2,6 +2,7 @@
 ghost use Rattle.std.specs.Prelude.{◌≡◌, Some};
 ghost use Rattle.rehearsal.specs.Columns.{why_of, why_text};
 
+use codec::frame_type::ReasonCodes;
 use ends::answer::Answer;
 use states::reason::Release;
 use states::state::Status;
@@ -38,7 +39,7 @@ impl fmt::Display for Why {
                 write!(f, "no{number}")
             }
             Why::Out(Release::Own(reason)) => {
-                let codes = reason.codes();
+                let codes = ReasonCodes::from(reason);
                 write!(f, "{codes}")
             }
             Why::Out(Release::Far(codes)) => write!(f, "f{codes}"),
