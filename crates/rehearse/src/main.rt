@@ -21,7 +21,7 @@ fn run(rt: &HostRuntime) -> anyhow::Result<bool> {
     let script = read(rt, "script")?;
     match rehearse(rt.alloc(), sheet.as_slice(), script.as_slice()) {
         Ok(listing) => rt.print(listing)?,
-        Err(RehearsalError::Fault(fault)) => {
+        Err(RehearsalError::Cause(fault)) => {
             rt.print(FaultLine(fault))?;
             return Ok(false);
         }

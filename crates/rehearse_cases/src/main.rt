@@ -2,8 +2,7 @@
 #![tactic(auto)]
 
 use anyhow::anyhow;
-use rehearsal::faults::FaultLine;
-use rehearsal::rehearsing::{RehearsalError, rehearse};
+use rehearsal::rehearsing::printed;
 use std::{env, fs};
 
 fn read(rt: &HostRuntime, example: &str, file: &str) -> anyhow::Result<Vec<u8>> {
@@ -13,19 +12,18 @@ fn read(rt: &HostRuntime, example: &str, file: &str) -> anyhow::Result<Vec<u8>> 
 }
 
 // What the program `rehearse` prints of the example.
-fn printed(rt: &HostRuntime, example: &str) -> anyhow::Result<String> {
+fn listed(rt: &HostRuntime, example: &str) -> anyhow::Result<String> {
     let sheet = read(rt, example, "sheet")?;
     let script = read(rt, example, "script")?;
-    match rehearse(rt.alloc(), sheet.as_slice(), script.as_slice()) {
-        Ok(listing) => Ok(listing),
-        Err(RehearsalError::Fault(fault)) => Ok(FaultLine(fault).to_string(rt.alloc())?),
-        Err(RehearsalError::NoMemory) => Err(anyhow!("no memory")),
+    match printed(rt.alloc(), sheet.as_slice(), script.as_slice()) {
+        Ok(text) => Ok(text),
+        Err(_) => Err(anyhow!("no memory")),
     }
 }
 
 fn compare(rt: &HostRuntime, example: &str) -> anyhow::Result<()> {
     let listing = read(rt, example, "listing")?;
-    let text = printed(rt, example)?;
+    let text = listed(rt, example)?;
     if text.as_bytes() == listing.as_slice() {
         println!(rt; "{example}: as listed")?;
     } else {

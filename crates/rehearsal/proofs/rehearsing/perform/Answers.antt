@@ -1,16 +1,10 @@
-use Rattle.std.proofs.Common.{◌≡◌, map, length, vec_items, string_bytes, ap, ◌∙◌, subst}
+use Rattle.std.proofs.Common.{◌≡◌, map, vec_items, string_bytes, ap, ◌∙◌, subst}
 use Rattle.std.proofs.lemmas.Result.{IfOk-weaker}
 use Rattle.carrier.specs.Wires.{wire_meaning}
 use Rattle.link.specs.Tells.{told_by, RunMade}
 use Rattle.rehearsal.specs.Listing.{listing_text}
 use Rattle.rehearsal.specs.Rehearsals.{Performed}
-use Rattle.rehearsal.proofs.Lists.{as_many}
 use Rattle.rehearsal.proofs.rehearsing.perform.Goals as goal
-
-pub listing-requires : goal.listing-requires
-listing-requires c =
-    ap length c.as_slice.ensures.value
-    ∙ as_many c.args.sheet.now _ _ _ c.args.calls.now (vec_items c.in-Ok.lines) c.in-Ok.ensures.tells
 
 pub returns-in-Ok : goal.returns-in-Ok
 returns-in-Ok c =
