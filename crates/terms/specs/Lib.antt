@@ -5,4 +5,5 @@ pub mod Refusals
 pub mod Failures
 pub mod Numbers
 pub mod Buffers
+pub mod Layouts
 pub mod Outcomes
