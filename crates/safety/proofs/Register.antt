@@ -4,6 +4,8 @@ use native.Mathlib.Nat.{mod-one}
 use lib.Bits.{bit_xor, xor_block, xor_assoc, xor_comm, xor_lt, xor_self, xor_zero_r, xor_shifted}
 use Rattle.std.proofs.lemmas.Nat.{mod-pow-add, shl_below, mod_below, pow_pos, pow-add}
 use Rattle.std.proofs.lemmas.Bool.{cond-true, cond-false, lt-ltb, le-ltb, cases_lt}
+use Rattle.std.specs.List.{fold}
+use Rattle.terms.specs.Numbers.{Bytes}
 use Rattle.safety.specs.Remainder.{bits, bits_of, less, divide, remainder}
 use Rattle.safety.specs.Registers.{shifted, turns, fed}
 
@@ -219,6 +221,12 @@ module _ (p : ℕ) (hp : p < 2 ^ 32) where
   pub remainder_lt : (s : List ℕ) → remainder p s < 2 ^ 32
   remainder_lt s = subst (λ u. u < 2 ^ 32) (sym (by_turns s)) (turns_lt 32 _ (divide_lt s 0 (omega arith)))
 
+  -- bytes one after another through the register
+  pub remainder_fold : (t s : List ℕ) → Bytes t → fold (fed p) (remainder p s) t ≡ remainder p (s ++ t)
+  remainder_fold [] s h = ap (remainder p) (sym (append-nil s))
+  remainder_fold (b ∷ t) s h =
+      ap (λ r. fold (fed p) r t) (sym (remainder_push s b h.0)) ∙ remainder_fold t (s ++ b ∷ []) h.1 ∙ ap (remainder p) (append_assoc s (b ∷ []) t)
+
   -- the two ways of the code
   pub turn_high : (a : ℕ) → a < 2 ^ 32 → a / 2 ^ 31 ≡ 1 → bit_xor (a * 2 % 2 ^ 32) p ≡ shifted p a
   turn_high a h e =
@@ -228,10 +236,3 @@ module _ (p : ℕ) (hp : p < 2 ^ 32) where
 
   pub turn_plain : (a : ℕ) → a < 2 ^ 32 → a / 2 ^ 31 ≢ 1 → a * 2 % 2 ^ 32 ≡ shifted p a
   turn_plain a h ne = let low : a < 2 ^ 31 = omega arith in let up : a * 2 % 2 ^ 32 ≡ 2 * a = omega arith in up ∙ sym (turn_low a low)
-
-  turns_suc : (n r : ℕ) → turns p (suc n) r ≡ turns p n (shifted p r)
-  unfolding turns
-  turns_suc n r = refl
-
-  pub turns_more : (i r : ℕ) → i < 8 → turns p (8 - (i + 1)) (shifted p r) ≡ turns p (8 - i) r
-  turns_more i r h = let e : 8 - i ≡ suc (8 - (i + 1)) = omega arith in sym (ap (λ n. turns p n r) e ∙ turns_suc (8 - (i + 1)) r)

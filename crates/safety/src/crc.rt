@@ -22,6 +22,7 @@ impl Channel {
     }
 
     // One bit through the shift register: times x, less the divisor if the top bit was set.
+    #[tactic(auto, using(crate::proofs::Channels::low, crate::proofs::Register::turn_high, crate::proofs::Register::turn_plain))]
     fn shift(self, register: u32) -> u32
         ensures { result ≡ shifted (polynomial self) register }
     {
@@ -36,11 +37,9 @@ impl Channel {
     fn feed(self, register: u32, byte: u8) -> u32
         ensures { result ≡ fed (polynomial self) register byte }
     {
-        let mut reg = register ^ (u32::from(byte) << 24);
-        for _turn in 0..8u32 {
-            reg = self.shift(reg);
-        }
-        reg
+        (0..8u32).fold(register ^ (u32::from(byte) << 24), |turned, _| {
+            self.shift(turned)
+        })
     }
 
     // The check of the bytes: the remainder of the string times x^32. `leaves` says that it is a remainder, `only` that there is no other.
@@ -49,10 +48,8 @@ impl Channel {
         ensures leaves { Leaves (polynomial self) (times_x32 bytes.now) result }
         ensures only { (t : ℕ) → Leaves (polynomial self) (times_x32 bytes.now) t → t ≡ result }
     {
-        let mut reg = 0;
-        for b in bytes {
-            reg = self.feed(reg, *b);
-        }
-        reg
+        bytes
+            .iter()
+            .fold(0, |register, byte| self.feed(register, *byte))
     }
 }

@@ -13,6 +13,7 @@ pub struct SafetyWord(pub u64);
 pub struct SafetyCode(pub u64);
 
 // The first check in the high half, the second in the low half.
+#[tactic(auto, unfolding(crate::specs::Words::checks))]
 fn checks_of(bytes: &[u8]) -> u64
     ensures { result ≡ checks bytes.now }
 {
