@@ -1,4 +1,3 @@
-pub mod Framing
 pub mod Judging
 pub mod TelegramTrips
 pub mod Sealings

@@ -1,7 +1,8 @@
 -- Sealed frames, and the one word that a data frame bears.
-use Rattle.std.proofs.Common.{◌≡◌, ℕ, suc, ◌+◌, ◌-◌, ◌^◌, ◌<◌, ◌≤◌, List, length, take, drop, Some, None, Ok, Err, Option, Result, sym, refl, ap, ◌∙◌, subst, arith, length-append, take_at, drop_at}
+use Rattle.std.proofs.Common.{◌≡◌, ℕ, suc, ◌+◌, ◌-◌, ◌^◌, ◌<◌, ◌≤◌, true, List, length, take, drop, Some, None, Ok, Err, Option, Result, sym, refl, ap, ◌∙◌, subst, arith, length-append, take_at, drop_at}
 use lib.Bits.{bit_xor, xor_assoc, xor_self, xor_zero_l, xor_lt}
 use Rattle.terms.specs.declared.refusal.Refusal.{Refusal}
+use Rattle.std.proofs.lemmas.Bool.{leb-true}
 use Rattle.terms.specs.declared.role.Role.{Role}
 use Rattle.safety.specs.declared.crc.Channel.TheVariants.{First, Second}
 use Rattle.safety.specs.declared.word.SafetyWord.{SafetyWord}
@@ -10,12 +11,12 @@ use Rattle.safety.specs.Remainder.{polynomial}
 use Rattle.codec.specs.Frames.{FrameValue, bare_di, au1, au2, au3, ar, di, dt, read_frame}
 use Rattle.codec.specs.FrameLaws.{Writing, Judged}
 use Rattle.safety.specs.Words.{checks, code_of, word_borne}
-use Rattle.codec.specs.Sealing.{guarded, sealed, word_in, Bears, BearsOne}
+use Rattle.codec.specs.Sealing.{guarded, sealed, word_in, Bears, BearsOne, SealedIn}
 use Rattle.safety.proofs.Channels.{low}
 use Rattle.safety.proofs.Register.{remainder_lt}
 use Rattle.terms.proofs.Numbers.{number_back, bytes_back, number_lt, Bytes-drop}
-use Rattle.terms.specs.Buffers.{overlay}
-use Rattle.terms.proofs.Laid.{laid_front}
+use Rattle.codec.specs.Telegrams.{TelegramValue, telegram_bytes, body_fits}
+use Rattle.codec.proofs.TelegramTrips.{length_telegram}
 use Rattle.codec.proofs.Judging.{writing_reads, judged}
 
 -- laid over twice is not laid over
@@ -96,10 +97,12 @@ one_of s (Ok (dt towards t c)) e h j =
 pub bears_one : (s : List ℕ) (word : Option SafetyWord) → Bytes s → word ≡ word_in (read_frame s) → BearsOne s word
 bears_one s word h e = subst (BearsOne s) (sym e) (one_of s (read_frame s) refl h (judged s h))
 
--- a sealed frame at the start of a buffer
-pub front_laid : (towards : Role) (t : List ℕ) (word : ℕ) (o w : List ℕ) (n : ℕ) → n ≡ length (sealed towards t word) → w ≡ overlay (sealed towards t word) o
-    → 9 ≤ length t → length t ≤ 1032
-    → (read_frame (take n w) ≡ Ok (dt towards t (bytes 8 (code_of word (guarded towards t))))) × Bears word (take n w)
-front_laid towards t word o w n e is low high =
-    let front = laid_front (sealed towards t word) o w n e is in
-    (ap read_frame front ∙ writing_reads _ _ (sealed_writing towards t word low high), subst (Bears word) (sym front) (sealed_bears towards t word low high))
+-- what is sealed is read as the data frame that it is, and bears the word
+pub sealed_in : (towards : Role) (t : TelegramValue) (word : ℕ) → body_fits t ≡ true → SealedIn towards (telegram_bytes t) word (sealed towards (telegram_bytes t) word)
+sealed_in towards t word fits =
+    let s = telegram_bytes t in
+    let long = length_telegram t in
+    let room = leb-true _ _ fits in
+    let low : 9 ≤ length s = omega arith in
+    let high : length s ≤ 1032 = omega arith in
+    (writing_reads _ _ (sealed_writing towards s word low high), sealed_bears towards s word low high)

@@ -4,7 +4,7 @@ use Rattle.std.proofs.lemmas.Bool.{cond-true, cond-false, cond_both, eq-eqb, ne_
 use Rattle.terms.specs.declared.refusal.Refusal.{Refusal}
 use Rattle.terms.specs.declared.refusal.Refusal.TheVariants as refusal
 use Rattle.terms.specs.Numbers.{number, bytes, Bytes}
-use Rattle.codec.specs.Telegrams.{ContentValue, ec_start, am, am_req, am_ack, other, TelegramValue, content_type, content_bytes, header, telegram_bytes, telegram_length, read_content, read_telegram}
+use Rattle.codec.specs.Telegrams.{ContentValue, ec_start, am, am_req, am_ack, other, TelegramValue, content_type, content_bytes, header, telegram_bytes, telegram_length, read_content, read_telegram, body_fits}
 use Rattle.codec.specs.TelegramLaws.{Proper, TelegramWriting, TelegramJudged}
 use Rattle.terms.proofs.Numbers.{number_back, bytes_back, number_lt, Bytes-drop, Bytes-take, spelled, spell}
 
@@ -135,3 +135,8 @@ judged s h = only s (read_telegram s) refl (sound s h)
 pub length_telegram : (t : TelegramValue) → length (telegram_bytes t) ≡ 9 + length (content_bytes t.content)
 unfolding telegram_bytes
 length_telegram t = length-append (header t) (content_bytes t.content)
+
+-- what is written is read back
+pub read_back : (t : TelegramValue) → t.sn < 2 ^ 32 → t.ec < 2 ^ 32 → body_fits t ≡ true → Proper t.content → read_telegram (telegram_bytes t) ≡ Ok t
+read_back t sn ec fits proper =
+    writing_reads t (telegram_bytes t) record { sn_fits = sn; ec_fits = ec; proper = proper; length_fits = leb-true _ _ fits; written = refl }

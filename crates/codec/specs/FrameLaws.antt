@@ -1,5 +1,5 @@
 -- What it means that a string is a frame, and that it is none; and that writing and reading undo each other.
-use Rattle.std.specs.Prelude.{◌≡◌, ℕ, ◌^◌, ◌<◌, ◌≤◌, true, false, cond, ◌⊎◌, List, [], ◌∷◌, ◌++◌, length, take, drop, Ok, Err, Result, ◌==◌, ◌≢◌}
+use Rattle.std.specs.Prelude.{◌≡◌, ℕ, ◌^◌, ◌<◌, ◌≤◌, true, false, cond, ◌⊎◌, List, [], ◌∷◌, ◌++◌, length, take, drop, Ok, Err, Result, IfOk, ◌==◌, ◌≢◌}
 use Rattle.terms.specs.declared.refusal.Refusal.{Refusal}
 use Rattle.terms.specs.declared.refusal.Refusal.TheVariants as refusal
 use Rattle.terms.specs.declared.role.Role.{Role}
@@ -73,5 +73,4 @@ FitsFields (dt towards telegram code) = Unit {0}
 
 -- what is written is read as the same frame
 abbrev pub ReadBack : FrameValue → Result ℕ Refusal → List ℕ → Type 0
-ReadBack f (Ok n) out = read_frame (take n out) ≡ Ok f
-ReadBack f (Err e) out = Unit {0}
+ReadBack f r out = IfOk r (λ n. read_frame (take n out) ≡ Ok f)

@@ -11,7 +11,7 @@ use Rattle.codec.specs.declared.frame_type.ReasonCodes.{ReasonCodes}
 use Rattle.codec.specs.declared.frame.Frame.{Frame}
 use Rattle.codec.specs.declared.frame.Frame.TheVariants.{BareDi, Au1, Au2, Au3, Ar, Di, Dt}
 use Rattle.terms.specs.Numbers.{number, bytes}
-use Rattle.terms.specs.Buffers.{put_after}
+use Rattle.terms.specs.Layouts as layout
 use Rattle.codec.specs.FrameTypes.{first_byte, suits_length}
 
 -- a frame by what it says, wherever its bytes lie
@@ -132,7 +132,7 @@ read_frame (h ∷ body) = read_as (head_of h) body
 
 -- a buffer that is too short is refused first, then a data frame whose parts have no length that suits
 abbrev pub write_answer : FrameValue → List ℕ → Result ℕ Refusal
-write_answer f out = cond (nat_le (length (bytes_of f)) (length out)) (cond (sized f) (Ok (length (bytes_of f))) (Err refusal.FrameLength)) (Err refusal.BufferTooShort)
+write_answer f out = layout.write_answer (bytes_of f) (sized f) refusal.FrameLength out
 
 abbrev pub write_after : FrameValue → List ℕ → List ℕ
-write_after f out = cond (sized f) (put_after (bytes_of f) out) out
+write_after f out = layout.write_after (bytes_of f) (sized f) out

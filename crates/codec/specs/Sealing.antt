@@ -1,5 +1,5 @@
 -- Data frames and the word that each bears.
-use Rattle.std.specs.Prelude.{◌≡◌, ℕ, ◌^◌, ◌<◌, List, ◌∷◌, ◌++◌, take, Some, None, Ok, Err, Option, Result}
+use Rattle.std.specs.Prelude.{◌≡◌, ℕ, ◌^◌, ◌<◌, List, ◌∷◌, ◌++◌, take, Some, None, Ok, Err, Option, Result, IfOk}
 use Rattle.terms.specs.declared.refusal.Refusal.{Refusal}
 use Rattle.terms.specs.declared.role.Role.{Role}
 use Rattle.codec.specs.declared.frame_type.FrameType.TheVariants as type
@@ -42,8 +42,11 @@ abbrev pub BearsOne : List ℕ → Option SafetyWord → Type 0
 BearsOne s (Some w) = (w.0 < 2 ^ 64) × Bears w.0 s × ((other : ℕ) → other < 2 ^ 64 → Bears other s → other ≡ w.0)
 BearsOne s None = (other : ℕ) → Bears other s → ⊥
 
--- what was sealed is read as the data frame that it is, and bears the word
+-- s is read as the data frame with the telegram, and bears the word
+abbrev pub SealedIn : Role → List ℕ → ℕ → List ℕ → Type 0
+SealedIn towards telegram word s =
+    (read_frame s ≡ Ok (dt towards telegram (bytes 8 (code_of word (guarded towards telegram))))) × Bears word s
+
+-- what was sealed is read so, and bears the word
 abbrev pub Seals : Role → List ℕ → ℕ → Result ℕ Refusal → List ℕ → Type 0
-Seals towards telegram word (Ok n) out =
-    (read_frame (take n out) ≡ Ok (dt towards telegram (bytes 8 (code_of word (guarded towards telegram))))) × Bears word (take n out)
-Seals towards telegram word (Err e) out = Unit {0}
+Seals towards telegram word r out = IfOk r (λ n. SealedIn towards telegram word (take n out))

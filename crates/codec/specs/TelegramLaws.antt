@@ -1,5 +1,5 @@
 -- What it means that a string is a telegram; and that writing and reading undo each other.
-use Rattle.std.specs.Prelude.{◌≡◌, ℕ, ◌^◌, ◌<◌, ◌≤◌, List, length, take, Ok, Err, Result, ◌≢◌}
+use Rattle.std.specs.Prelude.{◌≡◌, ℕ, ◌^◌, ◌<◌, ◌≤◌, List, length, take, Ok, Err, Result, IfOk, ◌≢◌}
 use Rattle.terms.specs.declared.refusal.Refusal.{Refusal}
 use Rattle.terms.specs.declared.refusal.Refusal.TheVariants as refusal
 use Rattle.codec.specs.Telegrams.{ContentValue, ec_start, am, am_req, am_ack, other, TelegramValue, content_bytes, telegram_bytes, read_telegram}
@@ -28,5 +28,4 @@ TelegramJudged s (Err e) = (e ≡ refusal.FrameLength) × ((other : TelegramValu
 
 -- what is written is read as the same telegram
 abbrev pub TelegramBack : TelegramValue → Result ℕ Refusal → List ℕ → Type 0
-TelegramBack t (Ok n) out = Proper t.content → read_telegram (take n out) ≡ Ok t
-TelegramBack t (Err e) out = Unit {0}
+TelegramBack t r out = IfOk r (λ n. Proper t.content → read_telegram (take n out) ≡ Ok t)

@@ -6,7 +6,7 @@ use Rattle.codec.specs.declared.telegram.Content.{Content}
 use Rattle.codec.specs.declared.telegram.Content.TheVariants.{EcStart, Am, AmReq, AmAck, Other}
 use Rattle.codec.specs.declared.telegram.Telegram.{Telegram}
 use Rattle.terms.specs.Numbers.{number, bytes}
-use Rattle.terms.specs.Buffers.{overlay}
+use Rattle.terms.specs.Layouts.{write_answer, write_after}
 
 -- what a telegram says, wherever its bytes lie
 pub data ContentValue : Type 0 where
@@ -81,10 +81,13 @@ read_telegram t =
     (Ok record { sn = number 0 (take 4 (drop 1 t)); ec = number 0 (take 4 (drop 5 t)); content = read_content (slice_index t 0) (drop 9 t) })
     (Err refusal.FrameLength)
 
+-- what stands behind SN and EC is no longer than a message may be
+abbrev pub body_fits : TelegramValue → Bool
+body_fits t = nat_le (length (content_bytes t.content)) 1023
+
 -- a buffer that is too short is refused first, then a body that is longer than any message
 abbrev pub telegram_answer : TelegramValue → List ℕ → List ℕ → Result ℕ Refusal
-telegram_answer t s out =
-    cond (nat_le (length s) (length out)) (cond (nat_le (length (content_bytes t.content)) 1023) (Ok (length s)) (Err refusal.MessageTooLong)) (Err refusal.BufferTooShort)
+telegram_answer t s out = write_answer s (body_fits t) refusal.MessageTooLong out
 
 abbrev pub telegram_after : TelegramValue → List ℕ → List ℕ → List ℕ
-telegram_after t s out = cond (nat_le (length s) (length out)) (cond (nat_le (length (content_bytes t.content)) 1023) (overlay s out) out) out
+telegram_after t s out = write_after s (body_fits t) out

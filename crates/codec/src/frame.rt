@@ -1,18 +1,22 @@
 // Frames: reading a string as the one frame it is, and writing a frame.
-ghost use Rattle.std.specs.Prelude.{◌≡◌, ◌≤◌, true, length, IfOk};
-ghost use Rattle.terms.specs.Buffers.{put_after};
-ghost use Rattle.codec.specs.Frames.{frame_value, frame_values, sized, Parts, bytes_of, head_of, read_au1, read_au2, read_di, read_dt, read_body, read_typed, read_frame, write_answer, write_after};
+ghost use Rattle.std.specs.Prelude.{◌≡◌, ◌≤◌, true, false, length, take, drop, Ok, IfOk, MatchResult};
+ghost use Rattle.std.specs.Str.{bytes_eq};
+ghost use Rattle.terms.specs.declared.refusal.Refusal.TheVariants as refusal;
+ghost use Rattle.codec.specs.Frames.{frame_value, frame_values, sized, Parts, fixed_bytes, bytes_of, head_of, read_au1, read_au2, read_di, read_dt, read_body, read_typed, read_frame, write_answer, write_after};
 ghost use Rattle.codec.specs.FrameTypes.{Suits};
-ghost use Rattle.codec.specs.FrameLaws.{FitsFields, Judged, WrittenAgain, ReadBack};
+ghost use Rattle.codec.specs.FrameLaws.{Judged, WrittenAgain, ReadBack};
 
 use super::bytes::u64_from;
 use super::frame_type::{FrameType, ReasonCodes};
 use terms::laying::lay;
+use terms::layout;
+use terms::layout::Layout;
+use terms::lengths::LONGEST_MESSAGE;
 use terms::refusal::Refusal;
 use terms::role::Role;
 
-// The longest message that any frame may have.
-const MOST_DATA: usize = 1023;
+// The fixed bytes behind the first of an AU1 or an AU2.
+const FIXED: [u8; 4] = [0, 0, 0, 2];
 
 // A frame. The data case borrows telegram and safety code from the string that it was read from.
 #[derive(Clone, Copy)]
@@ -59,15 +63,20 @@ fn head(first: u8) -> Option<(FrameType, Role)>
     }
 }
 
+// What follows the fixed bytes.
+fn behind_fixed(body: &[u8]) -> Result<&[u8], Refusal>
+    ensures { MatchResult result (λ rest. (bytes_eq (take 4 body.now) fixed_bytes ≡ true) × (rest.now ≡ drop 4 body.now)) (λ e. (bytes_eq (take 4 body.now) fixed_bytes ≡ false) × (e ≡ refusal.FrameFixed)) }
+{
+    body.strip_prefix(&FIXED).ok_or(Refusal::FrameFixed)
+}
+
 fn au1_from(body: &[u8]) -> Result<Frame<'_>, Refusal>
     requires { length body.now ≡ 12 }
     ensures answer { frame_values result ≡ read_au1 body.now }
     ensures parts { IfOk result Parts }
 {
-    match body {
-        [0, 0, 0, 2, rb @ ..] => Ok(Frame::Au1 { rb: u64_from(rb) }),
-        _ => Err(Refusal::FrameFixed),
-    }
+    let rb = behind_fixed(body)?;
+    Ok(Frame::Au1 { rb: u64_from(rb) })
 }
 
 // The eight bytes between the fixed ones and the number are ignored.
@@ -76,12 +85,10 @@ fn au2_from(body: &[u8]) -> Result<Frame<'_>, Refusal>
     ensures answer { frame_values result ≡ read_au2 body.now }
     ensures parts { IfOk result Parts }
 {
-    match body {
-        [0, 0, 0, 2, _, _, _, _, _, _, _, _, mix @ ..] => Ok(Frame::Au2 {
-            ra_xor_rb: u64_from(mix),
-        }),
-        _ => Err(Refusal::FrameFixed),
-    }
+    let rest = behind_fixed(body)?;
+    Ok(Frame::Au2 {
+        ra_xor_rb: u64_from(&rest[8..]),
+    })
 }
 
 fn di_from(towards: Role, body: &[u8]) -> Result<Frame<'_>, Refusal>
@@ -89,16 +96,11 @@ fn di_from(towards: Role, body: &[u8]) -> Result<Frame<'_>, Refusal>
     ensures answer { frame_values result ≡ read_di towards body.now }
     ensures parts { IfOk result Parts }
 {
-    match body {
-        [reason, sub_reason] => Ok(Frame::Di {
-            towards,
-            codes: ReasonCodes {
-                reason: *reason,
-                sub_reason: *sub_reason,
-            },
-        }),
-        _ => unreachable(),
-    }
+    let [reason, sub_reason] = *body.as_array::<2>().unwrap();
+    Ok(Frame::Di {
+        towards,
+        codes: ReasonCodes { reason, sub_reason },
+    })
 }
 
 fn dt_from(towards: Role, body: &[u8]) -> Result<Frame<'_>, Refusal>
@@ -141,10 +143,8 @@ fn parse(s: &[u8]) -> Result<Frame<'_>, Refusal>
     let [first, body @ ..] = s else {
         return Ok(Frame::BareDi);
     };
-    let Some((kind, towards)) = head(*first) else {
-        return Err(Refusal::FrameType);
-    };
-    Frame::read_typed(kind, towards, MOST_DATA, body)
+    let (kind, towards) = head(*first).ok_or(Refusal::FrameType)?;
+    Frame::read_typed(kind, towards, LONGEST_MESSAGE, body)
 }
 
 impl<'a> Frame<'a> {
@@ -189,24 +189,42 @@ impl<'a> Frame<'a> {
         }
     }
 
-    // Whether the parts of a data frame have lengths that suit.
-    fn suits(self) -> bool
-        ensures { result ≡ sized (frame_value self.entry) }
+    // Writes the frame to the start of `out`, whose rest stays, and says how many bytes it has; a refusal leaves `out` as it was.
+    pub fn write(self, out: &mut [u8]) -> Result<usize, Refusal>
+        ensures answer { result ≡ write_answer (frame_value self.entry) out.old }
+        ensures after { out.new ≡ write_after (frame_value self.entry) out.old }
+        ensures back { ReadBack (frame_value self.entry) result out.new }
     {
+        layout::write(&self, out)
+    }
+}
+
+impl Layout for Frame<'_> {
+    ghost bytes = { λ frame. bytes_of (frame_value frame) };
+
+    ghost fits = { λ frame. sized (frame_value frame) };
+
+    ghost unfit = { refusal.FrameLength };
+
+    ghost read_back = { λ frame s. read_frame s ≡ Ok (frame_value frame) };
+
+    fn size(&self) -> usize {
+        Frame::size(*self)
+    }
+
+    // Whether the parts of a data frame have lengths that suit.
+    fn check(&self) -> Result<(), Refusal> {
         match self {
-            Frame::Dt { telegram, code, .. } => 9 <= telegram.len()
-                && telegram.len() <= 1032
-                && code.len() == 8,
-            _ => true,
+            Frame::Dt { telegram, code, .. }
+                if telegram.len() < 9 || 9 + LONGEST_MESSAGE < telegram.len() || code.len() != 8 =>
+                { Err(Refusal::FrameLength) }
+            _ => Ok(()),
         }
     }
 
-    // Writes the frame to the start of `out`, if there is room for it.
-    fn fill(self, out: &mut [u8])
-        ensures after { out.new ≡ put_after (bytes_of (frame_value self.entry)) out.old }
-        ensures fits { FitsFields (frame_value self.entry) }
-    {
-        match self {
+    #[tactic(auto, using(crate::proofs::Judging::read_back))]
+    fn lay(&self, out: &mut [u8]) {
+        match *self {
             Frame::BareDi => {}
             Frame::Au1 { rb } => lay(out, &[0x02, 0, 0, 0, 2], &rb.to_be_bytes(), &[]),
             Frame::Au2 { ra_xor_rb } => lay(
@@ -229,22 +247,5 @@ impl<'a> Frame<'a> {
                 code,
             } => lay(out, &[0x0A + towards.flag()], telegram, code),
         }
-    }
-
-    // Writes the frame to the start of `out`, whose rest stays, and says how many bytes it has; a refusal leaves `out` as it was.
-    pub fn write(self, out: &mut [u8]) -> Result<usize, Refusal>
-        ensures answer { result ≡ write_answer (frame_value self.entry) out.old }
-        ensures after { out.new ≡ write_after (frame_value self.entry) out.old }
-        ensures back { ReadBack (frame_value self.entry) result out.new }
-    {
-        let n = self.size();
-        if out.len() < n {
-            return Err(Refusal::BufferTooShort);
-        }
-        if !self.suits() {
-            return Err(Refusal::FrameLength);
-        }
-        self.fill(out);
-        Ok(n)
     }
 }

@@ -44,50 +44,14 @@ pub struct FrameRule {
     pub wrong_length: ReasonCodes,
 }
 
-// By type, in the order of `FrameType`.
-const RULES: [FrameRule; 6] = [
-    FrameRule {
-        lengths: Lengths::Exactly(13),
-        wrong_length: ReasonCodes {
-            reason: 10,
-            sub_reason: 1,
-        },
-    },
-    FrameRule {
-        lengths: Lengths::Exactly(21),
-        wrong_length: ReasonCodes {
-            reason: 10,
-            sub_reason: 2,
-        },
-    },
-    FrameRule {
-        lengths: Lengths::Exactly(9),
-        wrong_length: ReasonCodes {
-            reason: 10,
-            sub_reason: 3,
-        },
-    },
-    FrameRule {
-        lengths: Lengths::WithMessage(18),
-        wrong_length: ReasonCodes {
-            reason: 10,
-            sub_reason: 5,
-        },
-    },
-    FrameRule {
-        lengths: Lengths::Exactly(3),
-        wrong_length: ReasonCodes {
-            reason: 8,
-            sub_reason: 1,
-        },
-    },
-    FrameRule {
-        lengths: Lengths::Exactly(9),
-        wrong_length: ReasonCodes {
-            reason: 10,
-            sub_reason: 8,
-        },
-    },
+// By type, in the order of `FrameType`: the lengths, and the two bytes where the length is wrong.
+const RULES: [(Lengths, u8, u8); 6] = [
+    (Lengths::Exactly(13), 10, 1),
+    (Lengths::Exactly(21), 10, 2),
+    (Lengths::Exactly(9), 10, 3),
+    (Lengths::WithMessage(18), 10, 5),
+    (Lengths::Exactly(3), 8, 1),
+    (Lengths::Exactly(9), 10, 8),
 ];
 
 impl FrameType {
@@ -110,7 +74,11 @@ impl FrameType {
     pub fn rule(self) -> FrameRule
         ensures { result ≡ rule_of self }
     {
-        RULES[self as usize]
+        let (lengths, reason, sub_reason) = RULES[self as usize];
+        FrameRule {
+            lengths,
+            wrong_length: ReasonCodes { reason, sub_reason },
+        }
     }
 
     // Whether a frame of this type may have `len` bytes where a message has at most `most`.

@@ -2,13 +2,16 @@
 ghost use Rattle.std.specs.Prelude.{◌≡◌, Ok};
 ghost use Rattle.codec.specs.Frames.{frame_value, read_frame};
 ghost use Rattle.codec.specs.FrameLaws.{Writing};
-ghost use Rattle.codec.specs.Sealing.{sealed, word_in, BearsOne, Seals};
-ghost use Rattle.codec.specs.Telegrams.{telegram_value, telegram_bytes, telegram_answer, telegram_after};
+ghost use Rattle.codec.specs.Sealing.{sealed, word_in, BearsOne, SealedIn, Seals};
+ghost use Rattle.codec.specs.Telegrams.{telegram_value, telegram_bytes, body_fits, telegram_answer, telegram_after};
+ghost use Rattle.terms.specs.declared.refusal.Refusal.TheVariants as refusal;
 
 use super::bytes::u64_from;
 use super::frame::Frame;
 use super::telegram::Telegram;
 use safety::word::{SafetyCode, SafetyWord};
+use terms::layout;
+use terms::layout::Layout;
 use terms::refusal::Refusal;
 use terms::role::Role;
 
@@ -31,9 +34,44 @@ pub fn bears(s: &[u8]) -> Option<SafetyWord>
     ensures answer { result ≡ word_in (read_frame s.now) }
     ensures one { BearsOne s.now result }
 {
-    match Frame::read(s) {
-        Ok(frame) => word_in_frame(frame, s),
-        Err(_) => None,
+    let frame = Frame::read(s).ok()?;
+    word_in_frame(frame, s)
+}
+
+// A telegram that is to be sealed with a word.
+#[derive(Clone, Copy)]
+struct Sealed<'a> {
+    towards: Role,
+    telegram: Telegram<'a>,
+    word: SafetyWord,
+}
+
+impl Layout for Sealed<'_> {
+    ghost bytes = { λ s. sealed s.towards (telegram_bytes (telegram_value s.telegram)) s.word.0 };
+
+    ghost fits = { λ s. body_fits (telegram_value s.telegram) };
+
+    ghost unfit = { refusal.MessageTooLong };
+
+    ghost read_back = { λ s bytes. SealedIn s.towards (telegram_bytes (telegram_value s.telegram)) s.word.0 bytes };
+
+    #[tactic(auto, using(crate::proofs::Sealings::length_sealed))]
+    fn size(&self) -> usize {
+        1 + self.telegram.size() + 8
+    }
+
+    fn check(&self) -> Result<(), Refusal> {
+        self.telegram.check()
+    }
+
+    fn lay(&self, out: &mut [u8]) {
+        let n = 1 + self.telegram.size();
+        if out.len() < n + 8 {
+            return;
+        }
+        self.telegram.lay_behind(&[0x0A + self.towards.flag()], out);
+        let code = self.word.code(&out[0..n]);
+        out[n..n + 8].copy_from_slice(&code.0.to_be_bytes());
     }
 }
 
@@ -49,15 +87,10 @@ pub fn seal(
     ensures after { out.new ≡ telegram_after (telegram_value telegram.entry) (sealed towards (telegram_bytes (telegram_value telegram.entry)) word.0) out.old }
     ensures seals { Seals towards (telegram_bytes (telegram_value telegram.entry)) word.0 result out.new }
 {
-    let n = 1 + telegram.size();
-    if out.len() < n + 8 {
-        return Err(Refusal::BufferTooShort);
-    }
-    if !telegram.fits() {
-        return Err(Refusal::MessageTooLong);
-    }
-    telegram.fill(&[0x0A + towards.flag()], out);
-    let code = word.code(&out[0..n]);
-    out[n..n + 8].copy_from_slice(&code.0.to_be_bytes());
-    Ok(n + 8)
+    let sealed = Sealed {
+        towards,
+        telegram,
+        word,
+    };
+    layout::write(&sealed, out)
 }

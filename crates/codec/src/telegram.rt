@@ -1,11 +1,15 @@
 // Telegrams: what a data frame carries.
-ghost use Rattle.std.specs.Prelude.{◌≡◌, ◌+◌, ◌^◌, ◌<◌, ◌≤◌, ◌++◌, length, nat_le};
+ghost use Rattle.std.specs.Prelude.{◌≡◌, ◌+◌, ◌^◌, ◌<◌, ◌≤◌, ◌++◌, length, Ok};
 ghost use Rattle.terms.specs.Buffers.{put_after};
-ghost use Rattle.codec.specs.Telegrams.{content_value, telegram_value, telegram_values, content_type, content_bytes, header, telegram_bytes, read_start, read_content, read_telegram, telegram_answer, telegram_after};
-ghost use Rattle.codec.specs.TelegramLaws.{TelegramJudged, TelegramBack};
+ghost use Rattle.terms.specs.declared.refusal.Refusal.TheVariants as refusal;
+ghost use Rattle.codec.specs.Telegrams.{content_value, telegram_value, telegram_values, content_type, content_bytes, header, telegram_bytes, read_start, read_content, read_telegram, body_fits, telegram_answer, telegram_after};
+ghost use Rattle.codec.specs.TelegramLaws.{Proper, TelegramJudged, TelegramBack};
 
 use terms::counters::{ExecutionCycle, SequenceNumber};
 use terms::laying::lay;
+use terms::layout;
+use terms::layout::Layout;
+use terms::lengths::LONGEST_MESSAGE;
 use terms::refusal::Refusal;
 
 // What a telegram says. A message is borrowed from the string that it was read from.
@@ -28,9 +32,6 @@ pub struct Telegram<'a> {
     pub ec: ExecutionCycle,
     pub content: Content<'a>,
 }
-
-// The longest message.
-const MOST_DATA: usize = 1023;
 
 fn start_from(body: &[u8]) -> Content<'_>
     ensures { content_value result ≡ read_start body.now }
@@ -62,7 +63,7 @@ fn content_from(type_byte: u8, body: &[u8]) -> Content<'_>
 fn parse(t: &[u8]) -> Result<Telegram<'_>, Refusal>
     ensures { telegram_values result ≡ read_telegram t.now }
 {
-    if t.len() > 9 + MOST_DATA {
+    if t.len() > 9 + LONGEST_MESSAGE {
         return Err(Refusal::FrameLength);
     }
     let [type_byte, a, b, c, d, e, f, g, h, body @ ..] = t else {
@@ -95,10 +96,10 @@ impl<'a> Content<'a> {
     {
         match self {
             Content::EcStart { .. } => 3,
-            Content::Am(message) => message.len(),
-            Content::AmReq(message) => message.len(),
-            Content::AmAck(message) => message.len(),
-            Content::Other { body, .. } => body.len(),
+            Content::Am(body)
+            | Content::AmReq(body)
+            | Content::AmAck(body)
+            | Content::Other { body, .. } => body.len(),
         }
     }
 
@@ -111,10 +112,10 @@ impl<'a> Content<'a> {
                 let p = period.to_be_bytes();
                 lay(out, front, middle, &[version, p[0], p[1]])
             }
-            Content::Am(message) => lay(out, front, middle, message),
-            Content::AmReq(message) => lay(out, front, middle, message),
-            Content::AmAck(message) => lay(out, front, middle, message),
-            Content::Other { body, .. } => lay(out, front, middle, body),
+            Content::Am(body)
+            | Content::AmReq(body)
+            | Content::AmAck(body)
+            | Content::Other { body, .. } => lay(out, front, middle, body),
         }
     }
 }
@@ -132,38 +133,14 @@ impl<'a> Telegram<'a> {
     fn head(self) -> [u8; 9]
         ensures { result ≡ header (telegram_value self.entry) }
     {
-        let s = self.sn.0.to_be_bytes();
-        let e = self.ec.0.to_be_bytes();
-        [
-            self.content.type_byte(),
-            s[0],
-            s[1],
-            s[2],
-            s[3],
-            e[0],
-            e[1],
-            e[2],
-            e[3],
-        ]
-    }
-
-    // How many bytes the telegram has.
-    pub(crate) fn size(self) -> usize
-        ensures value { result ≡ length (telegram_bytes (telegram_value self.entry)) }
-        ensures bound { result < 2 ^ 63 + 9 }
-    {
-        9 + self.content.size()
-    }
-
-    // Whether what stands behind SN and EC is no longer than a message may be.
-    pub(crate) fn fits(self) -> bool
-        ensures { result ≡ nat_le (length (content_bytes (telegram_value self.entry).content)) 1023 }
-    {
-        self.content.size() <= MOST_DATA
+        let [a, b, c, d] = self.sn.0.to_be_bytes();
+        let [e, f, g, h] = self.ec.0.to_be_bytes();
+        [self.content.type_byte(), a, b, c, d, e, f, g, h]
     }
 
     // Lays `front` and then the telegram at the start of `out`, if there is room for them.
-    pub(crate) fn fill(self, front: &[u8], out: &mut [u8])
+    #[tactic(auto, unfolding(crate::specs::Telegrams::telegram_bytes))]
+    pub(crate) fn lay_behind(self, front: &[u8], out: &mut [u8])
         ensures after { out.new ≡ put_after (front.now ++ telegram_bytes (telegram_value self.entry)) out.old }
         ensures fits { ((telegram_value self.entry).sn < 2 ^ 32) × ((telegram_value self.entry).ec < 2 ^ 32) }
     {
@@ -176,14 +153,37 @@ impl<'a> Telegram<'a> {
         ensures after { out.new ≡ telegram_after (telegram_value self.entry) (telegram_bytes (telegram_value self.entry)) out.old }
         ensures back { TelegramBack (telegram_value self.entry) result out.new }
     {
-        let n = self.size();
-        if out.len() < n {
-            return Err(Refusal::BufferTooShort);
-        }
-        if !self.fits() {
+        layout::write(&self, out)
+    }
+}
+
+impl Layout for Telegram<'_> {
+    ghost bytes = { λ telegram. telegram_bytes (telegram_value telegram) };
+
+    ghost fits = { λ telegram. body_fits (telegram_value telegram) };
+
+    ghost unfit = { refusal.MessageTooLong };
+
+    ghost read_back = { λ telegram s. Proper (telegram_value telegram).content → read_telegram s ≡ Ok (telegram_value telegram) };
+
+    #[tactic(auto, using(crate::proofs::TelegramTrips::length_telegram))]
+    fn size(&self) -> usize
+        ensures value { result ≡ length (telegram_bytes (telegram_value self.now)) }
+        ensures bound { result < 2 ^ 63 + 9 }
+    {
+        9 + self.content.size()
+    }
+
+    // Whether what stands behind SN and EC is no longer than a message may be.
+    fn check(&self) -> Result<(), Refusal> {
+        if self.content.size() > LONGEST_MESSAGE {
             return Err(Refusal::MessageTooLong);
         }
-        self.fill(&[], out);
-        Ok(n)
+        Ok(())
+    }
+
+    #[tactic(auto, using(crate::proofs::TelegramTrips::read_back))]
+    fn lay(&self, out: &mut [u8]) {
+        self.lay_behind(&[], out)
     }
 }
