@@ -1,5 +1,5 @@
 -- A string is read as the one packet of which it is a writing, or there is one reason why it is none; and reading and writing undo each other.
-use Rattle.std.proofs.Common.{◌≡◌, ℕ, ◌+◌, ◌-◌, ◌*◌, ◌/◌, ◌%◌, ◌^◌, ◌<◌, ◌≤◌, Bool, true, false, cond, eqb, leb, ◌⊎◌, List, [], ◌∷◌, ◌++◌, length, get_or, take, drop, replicate, Ok, Err, Result, sym, refl, ap, ◌∙◌, subst, ap₂, inl, inr, ⊎_elim, append_assoc, arith, length-append, length-drop, take-append-drop, get_or-drop, drop-cons, drop-drop, take_at, drop_at, ltb-true, eq-eqb, ne_eqb, le-leb}
+use Rattle.std.proofs.Common.{◌≡◌, ℕ, ◌+◌, ◌-◌, ◌*◌, ◌/◌, ◌%◌, ◌^◌, ◌<◌, ◌≤◌, true, false, eqb, ◌⊎◌, List, [], ◌∷◌, ◌++◌, length, get_or, take, drop, replicate, Ok, Err, Result, sym, refl, ap, ◌∙◌, subst, ap₂, inl, inr, ⊎_elim, append_assoc, arith, length-append, length-drop, take-append-drop, get_or-drop, drop-cons, drop-drop, drop_at, ltb-true, eq-eqb, ne_eqb, le-leb}
 use borrow.Author.Tests.{lt-leb}
 use lib.ListN.{length-replicate}
 use lib.Seq.{get_or_at}
@@ -11,9 +11,8 @@ use Rattle.packets.specs.declared.packet.Cable.{Cable}
 use Rattle.packets.specs.declared.packet.PacketType.{PacketType}
 use Rattle.packets.specs.declared.packet.PacketType.TheVariants.{Au1, Au2, Data, Di}
 use Rattle.terms.specs.Numbers.{bytes}
-use Rattle.packets.specs.Packets.{PacketValue, mark, type_code, type_of, ignored_count, before_frame, preamble, packet_bytes, coded_type, marked, frame_in, read_packet, countable, wrap_answer, wrap_after}
-use Rattle.terms.specs.Buffers.{overlay}
-use Rattle.packets.specs.PacketLaws.{Writing, WrongLength, WrongType, NoPacket, Judged, WrittenAgain, ReadBack, ignored_by, settled}
+use Rattle.packets.specs.Packets.{PacketValue, mark, type_code, type_of, ignored_count, before_frame, preamble, packet_bytes, coded_type, marked, frame_in, read_packet, countable}
+use Rattle.packets.specs.PacketLaws.{Writing, WrongLength, WrongType, NoPacket, Judged, WrittenAgain, ignored_by, settled}
 use Rattle.packets.proofs.Packets.{read_refused, read_unsuited, read_good, read_short, read_miscounted, read_unknown}
 
 coded_back : (k : PacketType) → coded_type (type_code k) ≡ Ok k
@@ -22,7 +21,7 @@ coded_back Au2 = refl
 coded_back Data = refl
 coded_back Di = refl
 
-same_type : (j k : PacketType) → type_code j ≡ type_code k → j ≡ k
+pub same_type : (j k : PacketType) → type_code j ≡ type_code k → j ≡ k
 same_type j k e = let h : ◌≡◌ {A = Result PacketType Refusal} (Ok j) (Ok k) = sym (coded_back j) ∙ ap coded_type e ∙ coded_back k in cc
 
 known : (n : ℕ) → ((k : PacketType) × (n ≡ type_code k)) ⊎ ((k : PacketType) → n ≡ type_code k → ⊥)
@@ -152,7 +151,7 @@ fine s six counts enough (inr (inl b)) = b counts
 fine s six counts enough (inr (inr c)) = omega (arith, enough c.0 c.1, c.2)
 
 no_ok : (s : List ℕ) (e : Refusal) → read_packet s ≡ Err e → (q : PacketValue) → Writing q s → ⊥
-no_ok s e h q w = let r = read_writing q s w in let z : ◌≡◌ {A = ℕ} 0 1 = cc in omega arith
+no_ok s e h q w = let r = read_writing q s w in cc
 
 by_length : (s : List ℕ) → WrongLength s → read_packet s ≡ Err refusal.PacketLength → Judged s (read_packet s)
 by_length s w e = subst (Judged s) (sym e) (inl (refl, w), no_ok s refusal.PacketLength e, only)
@@ -292,17 +291,9 @@ packet_writing q cable n l =
       form = ap (λ m. framed k m q.number (mark cable) (replicate (ignored_count k) 0) q.frame) (omega (arith, length-append (preamble k) q.frame));
     }
 
-back_by : (a b : Bool) (q : PacketValue) (cable : Cable) (out out' : List ℕ) (r : Result ℕ Refusal) → q.number < 2 ^ 16 → countable (packet_bytes q cable) ≡ b
-    → r ≡ cond a (cond b (Ok (length (packet_bytes q cable))) (Err refusal.StringTooLong)) (Err refusal.BufferTooShort)
-    → out' ≡ cond a (cond b (overlay (packet_bytes q cable) out) out) out → ReadBack q r out'
-back_by true true q cable out out' r n h e f =
+-- what is written is read back
+pub read_back : (q : PacketValue) (cable : Cable) → q.number < 2 ^ 16 → countable (packet_bytes q cable) ≡ true → read_packet (packet_bytes q cable) ≡ Ok q
+read_back q cable n h =
     let p : List ℕ = packet_bytes q cable in
     let l : length p < 2 ^ 16 + 2 = omega (arith, ltb-true (length p - 2) (2 ^ 16) h) in
-    subst (λ (x : Result ℕ Refusal). ReadBack q x out') (sym e)
-    (ap (λ x. read_packet (take (length p) x)) f ∙ ap read_packet (take_at p (drop (length p) out) (length p) refl) ∙ read_writing q p (packet_writing q cable n l))
-back_by true false q cable out out' r n h e f = subst (λ (x : Result ℕ Refusal). ReadBack q x out') (sym e) tt
-back_by false b q cable out out' r n h e f = subst (λ (x : Result ℕ Refusal). ReadBack q x out') (sym e) tt
-
-pub back_of : (q : PacketValue) (cable : Cable) (out out' : List ℕ) (r : Result ℕ Refusal) → q.number < 2 ^ 16
-    → r ≡ wrap_answer (packet_bytes q cable) out → out' ≡ wrap_after (packet_bytes q cable) out → ReadBack q r out'
-back_of q cable out out' r n e f = back_by (leb (length (packet_bytes q cable)) (length out)) (countable (packet_bytes q cable)) q cable out out' r n refl e f
+    read_writing q p (packet_writing q cable n l)

@@ -1,5 +1,5 @@
 -- What it means that a string is a packet, and that it is none; and that writing and reading undo each other.
-use Rattle.std.specs.Prelude.{◌≡◌, ℕ, ◌+◌, ◌-◌, ◌*◌, ◌^◌, ◌<◌, cond, ◌⊎◌, List, ◌∷◌, ◌++◌, length, take, drop, replicate, Ok, Err, Result, ◌==◌, ◌≢◌, slice_index}
+use Rattle.std.specs.Prelude.{◌≡◌, ℕ, ◌+◌, ◌-◌, ◌*◌, ◌^◌, ◌<◌, cond, ◌⊎◌, List, ◌∷◌, ◌++◌, length, take, drop, replicate, Ok, Err, Result, IfOk, ◌==◌, ◌≢◌, slice_index}
 use Rattle.terms.specs.declared.refusal.Refusal.{Refusal}
 use Rattle.terms.specs.declared.refusal.Refusal.TheVariants as refusal
 use Rattle.packets.specs.declared.packet.Cable.{Cable}
@@ -56,5 +56,4 @@ WrittenAgain s (Err e) = Unit {0}
 
 -- what is written is read as the same packet
 abbrev pub ReadBack : PacketValue → Result ℕ Refusal → List ℕ → Type 0
-ReadBack q (Ok n) out = read_packet (take n out) ≡ Ok q
-ReadBack q (Err e) out = Unit {0}
+ReadBack q r out = IfOk r (λ n. read_packet (take n out) ≡ Ok q)

@@ -11,7 +11,7 @@ use Rattle.packets.specs.declared.packet.PacketType.TheVariants.{Au1, Au2, Data,
 use Rattle.packets.specs.declared.packet.Packet.{Packet}
 use Rattle.terms.specs.Numbers.{bytes}
 use Rattle.terms.specs.Outcomes.{then}
-use Rattle.terms.specs.Buffers.{overlay}
+use Rattle.terms.specs.Layouts.{write_answer, write_after}
 
 -- a packet by what it says, wherever its bytes lie
 pub record PacketValue : Type 0 where
@@ -74,11 +74,11 @@ countable packet = nat_lt (length packet - 2) (2 ^ 16)
 
 -- a buffer that is too short is refused first, then a frame that is too long for the length field
 abbrev pub wrap_answer : List ℕ → List ℕ → Result ℕ Refusal
-wrap_answer packet out = cond (nat_le (length packet) (length out)) (cond (countable packet) (Ok (length packet)) (Err refusal.StringTooLong)) (Err refusal.BufferTooShort)
+wrap_answer packet out = write_answer packet (countable packet) refusal.StringTooLong out
 
 -- the buffer after: a refusal leaves it as it was
 abbrev pub wrap_after : List ℕ → List ℕ → List ℕ
-wrap_after packet out = cond (nat_le (length packet) (length out)) (cond (countable packet) (overlay packet out) out) out
+wrap_after packet out = write_after packet (countable packet) out
 
 -- Reading:
 

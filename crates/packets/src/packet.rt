@@ -1,31 +1,35 @@
 // Packets: the envelope in which the redundancy layer carries a frame, with a transport number.
-ghost use Rattle.std.specs.Prelude.{◌≡◌, Ok, Err, MatchResult};
-ghost use Rattle.packets.specs.Packets.{packet_value, packet_values, mark, type_code, type_of, preamble, coded_type, frame_in, packet_bytes, read_packet, wrap_answer, wrap_after};
+ghost use Rattle.std.specs.Prelude.{◌≡◌, ◌+◌, ◌^◌, ◌<◌, [], ◌∷◌, ◌++◌, length, Ok, Err, MatchResult};
+ghost use Rattle.terms.specs.Numbers.{bytes};
+ghost use Rattle.terms.specs.declared.refusal.Refusal.TheVariants as refusal;
+ghost use Rattle.packets.specs.Packets.{packet_value, packet_values, mark, type_code, type_of, preamble, coded_type, frame_in, packet_bytes, countable, read_packet, wrap_answer, wrap_after};
 ghost use Rattle.packets.specs.PacketLaws.{Judged, WrittenAgain, ReadBack};
 
 use terms::laying::lay;
+use terms::layout;
+use terms::layout::Layout;
 use terms::refusal::Refusal;
 
 // As many bytes as the length field can count.
 const LARGEST_COUNT: usize = 0xFFFF;
 
 // The number that tells a packet from the others of its side, so that one of two copies is handed out.
-#[derive(Clone, Copy)]
+#[derive(Clone, Copy, PartialEq, Eq, Debug)]
 pub struct TransportNumber(pub u16);
 
 // Which of the two carriers a packet is written for.
-#[derive(Clone, Copy)]
+#[derive(Clone, Copy, PartialEq, Eq, Debug)]
 pub enum Cable {
     Normal,
     Redundant,
 }
 
-impl Cable {
-    // The N/R byte, which reading ignores.
-    fn mark(self) -> u8
-        ensures { result ≡ mark self }
-    {
-        match self {
+// The N/R byte, which reading ignores.
+impl From<Cable> for u8 {
+    ghost from_gives = { λ cable n. n ≡ mark cable };
+
+    fn from(cable: Cable) -> u8 {
+        match cable {
             Cable::Normal => 1,
             Cable::Redundant => 0,
         }
@@ -33,12 +37,42 @@ impl Cable {
 }
 
 // The four types of packet, named after the frames for which they were made: AU3, AR and DT frames all go in `Data`.
-#[derive(Clone, Copy)]
+#[derive(Clone, Copy, PartialEq, Eq, Debug)]
 pub enum PacketType {
     Au1,
     Au2,
     Data,
     Di,
+}
+
+// The type byte.
+impl From<PacketType> for u8 {
+    ghost from_gives = { λ kind n. n ≡ type_code kind };
+
+    fn from(kind: PacketType) -> u8 {
+        match kind {
+            PacketType::Au1 => 1,
+            PacketType::Au2 => 2,
+            PacketType::Data => 3,
+            PacketType::Di => 4,
+        }
+    }
+}
+
+impl TryFrom<u8> for PacketType {
+    type Error = Refusal;
+
+    ghost try_from_gives = { λ code r. r ≡ coded_type code };
+
+    fn try_from(code: u8) -> Result<PacketType, Refusal> {
+        match code {
+            1 => Ok(PacketType::Au1),
+            2 => Ok(PacketType::Au2),
+            3 => Ok(PacketType::Data),
+            4 => Ok(PacketType::Di),
+            _ => Err(Refusal::PacketType),
+        }
+    }
 }
 
 impl PacketType {
@@ -52,30 +86,6 @@ impl PacketType {
             [0x05, ..] => PacketType::Au2,
             [0x10, ..] | [0x11, ..] => PacketType::Di,
             _ => PacketType::Data,
-        }
-    }
-
-    // The type byte.
-    pub fn code(self) -> u8
-        ensures { result ≡ type_code self }
-    {
-        match self {
-            PacketType::Au1 => 1,
-            PacketType::Au2 => 2,
-            PacketType::Data => 3,
-            PacketType::Di => 4,
-        }
-    }
-
-    fn from_code(code: u8) -> Result<PacketType, Refusal>
-        ensures { result ≡ coded_type code }
-    {
-        match code {
-            1 => Ok(PacketType::Au1),
-            2 => Ok(PacketType::Au2),
-            3 => Ok(PacketType::Data),
-            4 => Ok(PacketType::Di),
-            _ => Err(Refusal::PacketType),
         }
     }
 
@@ -126,9 +136,9 @@ fn parse(s: &[u8]) -> Result<Packet<'_>, Refusal>
     if usize::from(u16::from_be_bytes([*length1, *length0])) + 2 != s.len() {
         return Err(Refusal::PacketLength);
     }
-    let kind = PacketType::from_code(*code)?;
+    let kind = PacketType::try_from(*code)?;
     let frame = kind.frame_in(body)?;
-    if PacketType::of(frame).code() != kind.code() {
+    if PacketType::of(frame) != kind {
         return Err(Refusal::PacketType);
     }
     Ok(Packet {
@@ -137,32 +147,50 @@ fn parse(s: &[u8]) -> Result<Packet<'_>, Refusal>
     })
 }
 
-// Writes the packet to the start of `out`, if all of it can be written and counted.
-fn wrap(packet: Packet<'_>, cable: Cable, out: &mut [u8]) -> Result<usize, Refusal>
-    ensures answer { result ≡ wrap_answer (packet_bytes (packet_value packet.entry) cable) out.old }
-    ensures after { out.new ≡ wrap_after (packet_bytes (packet_value packet.entry) cable) out.old }
-{
-    let kind = PacketType::of(packet.frame);
-    let preamble = kind.preamble();
-    let count = 4 + preamble.len() + packet.frame.len();
-    if out.len() < count + 2 {
-        return Err(Refusal::BufferTooShort);
+// A packet that is to be written for a cable.
+#[derive(Clone, Copy)]
+struct Wrapped<'a> {
+    packet: Packet<'a>,
+    cable: Cable,
+}
+
+impl Wrapped<'_> {
+    // How many bytes stand behind the length field.
+    fn count(&self) -> usize
+        ensures value { result ≡ 4 + (length (preamble (type_of self.now.packet.frame.now)) + length self.now.packet.frame.now) }
+        ensures bound { result < 2 ^ 63 + 13 }
+    {
+        let preamble = PacketType::of(self.packet.frame).preamble();
+        4 + preamble.len() + self.packet.frame.len()
     }
-    if count > LARGEST_COUNT {
-        return Err(Refusal::StringTooLong);
+}
+
+impl Layout for Wrapped<'_> {
+    ghost bytes = { λ it. packet_bytes (packet_value it.packet) it.cable };
+
+    ghost fits = { λ it. countable (packet_bytes (packet_value it.packet) it.cable) };
+
+    ghost unfit = { refusal.StringTooLong };
+
+    ghost read_back = { λ it s. read_packet s ≡ Ok (packet_value it.packet) };
+
+    fn size(&self) -> usize {
+        self.count() + 2
     }
-    let [length1, length0] = (count as u16).to_be_bytes();
-    let [number1, number0] = packet.number.0.to_be_bytes();
-    let head = [
-        length1,
-        length0,
-        number1,
-        number0,
-        cable.mark(),
-        kind.code(),
-    ];
-    lay(out, &head, preamble, packet.frame);
-    Ok(count + 2)
+
+    fn check(&self) -> Result<(), Refusal> {
+        if self.count() > LARGEST_COUNT {
+            return Err(Refusal::StringTooLong);
+        }
+        Ok(())
+    }
+
+    #[tactic(auto, using(crate::proofs::PacketLaws::read_back))]
+    fn lay(&self, out: &mut [u8]) {
+        let preamble = PacketType::of(self.packet.frame).preamble();
+        let head = self.packet.head(self.count(), self.cable);
+        lay(out, &head, preamble, self.packet.frame)
+    }
 }
 
 impl<'a> Packet<'a> {
@@ -175,6 +203,24 @@ impl<'a> Packet<'a> {
         parse(s)
     }
 
+    // What stands before the preamble: how many bytes follow, the transport number, the N/R byte and the type byte.
+    fn head(self, count: usize, cable: Cable) -> [u8; 6]
+        ensures value { result ≡ bytes 2 count ++ (bytes 2 (packet_value self.entry).number ++ (mark cable ∷ type_code (type_of (packet_value self.entry).frame) ∷ [])) }
+        ensures fits { (packet_value self.entry).number < 2 ^ 16 }
+    {
+        let [.., length1, length0] = count.to_be_bytes();
+        let [number1, number0] = self.number.0.to_be_bytes();
+        let kind = PacketType::of(self.frame);
+        [
+            length1,
+            length0,
+            number1,
+            number0,
+            u8::from(cable),
+            u8::from(kind),
+        ]
+    }
+
     // Writes the packet for a cable to the start of `out`, and answers its length.
     // An `out` that is too short is refused, and then a frame that is too long for the length field; both leave `out` as it was.
     pub fn write(self, cable: Cable, out: &mut [u8]) -> Result<usize, Refusal>
@@ -182,6 +228,12 @@ impl<'a> Packet<'a> {
         ensures after { out.new ≡ wrap_after (packet_bytes (packet_value self.entry) cable) out.old }
         ensures back { ReadBack (packet_value self.entry) result out.new }
     {
-        wrap(self, cable, out)
+        layout::write(
+            &Wrapped {
+                packet: self,
+                cable,
+            },
+            out,
+        )
     }
 }

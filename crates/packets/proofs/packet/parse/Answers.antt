@@ -2,8 +2,9 @@
 use Rattle.std.proofs.Common.{◌≡◌, ◌+◌, ◌-◌, ◌*◌, ◌≤◌, length, get_or, take, drop, Ok, Err, sym, ap, ◌∙◌, arith, rules}
 use Rattle.std.proofs.lemmas.List.{take_rest}
 use Rattle.std.proofs.lemmas.Result.{err_from_is_err_and}
-use Rattle.packets.specs.Packets.{packet_values, coded_type, frame_in, type_code}
+use Rattle.packets.specs.Packets.{packet_values, coded_type, frame_in, type_code, type_of}
 use Rattle.packets.proofs.Packets.{read_refused, read_unsuited, read_good}
+use Rattle.packets.proofs.PacketLaws.{same_type}
 use Rattle.packets.proofs.packet.parse.Goals as goal
 use Rattle.packets.proofs.packet.parse.Goals.{After-frame_in}
 
@@ -18,7 +19,7 @@ begun : (c : goal.After-frame_in) → Begun c
 begun c = record {
   six = search rules;
   counts = omega (arith, c.from.ensures, c.from_be_bytes.ensures);
-  type = sym c.from_code.ensures ∙ c.in_ok-kind.was;
+  type = sym c.try_from.ensures ∙ c.in_ok-kind.was;
   body = take_rest c.args.s.now 6;
 }
 
@@ -30,17 +31,19 @@ returns-in_err-frame c =
     ∙ sym (read_refused c.args.s.now c.in_ok-kind.kind b.six b.counts b.type c.in_err-frame.field-0.0
     (ap (frame_in c.in_ok-kind.kind) (sym b.body) ∙ c.in_err-frame.ensures))
 
-pub returns-then-code : goal.returns-then-code
-returns-then-code c =
-    let b = begun (goal.at.returns-then-code c).After-frame_in in
+pub returns-then-ne : goal.returns-then-ne
+returns-then-ne c =
+    let b = begun (goal.at.returns-then-ne c).After-frame_in in
+    let other : type_of c.in_ok-frame.frame.now ≡ c.in_ok-kind.kind → ⊥ = search rules in
     sym (read_unsuited c.args.s.now c.in_ok-kind.kind b.six b.counts b.type c.in_ok-frame.frame.now
     (ap (frame_in c.in_ok-kind.kind) (sym b.body) ∙ c.in_ok-frame.ensures)
-    (λ e. c.if-code.true (c.code.ensures ∙ ap type_code c.of.ensures ∙ e ∙ sym c.code-2.ensures)))
+    (λ e. other (same_type _ _ e)))
 
 pub returns : goal.returns
 returns c =
     let b = begun (goal.at.returns c).After-frame_in in
+    let same : type_of c.in_ok-frame.frame.now ≡ c.in_ok-kind.kind = search rules in
     ap (λ n. Ok (record { number = n; frame = c.in_ok-frame.frame.now })) c.from_be_bytes-2.ensures
     ∙ sym (read_good c.args.s.now c.in_ok-kind.kind b.six b.counts b.type c.in_ok-frame.frame.now
     (ap (frame_in c.in_ok-kind.kind) (sym b.body) ∙ c.in_ok-frame.ensures)
-    (sym (ap type_code c.of.ensures) ∙ sym c.code.ensures ∙ c.if-code.false ∙ c.code-2.ensures))
+    (ap type_code same))
