@@ -1,32 +1,62 @@
--- What a call put is what it laid; and a call that is not refused does what its rule says.
-use Rattle.std.proofs.Common.{◌≡◌, ℕ, List, length, Some, None, Option, sym, refl, ap, subst}
+-- What a call put is what it laid at the start of its output buffer; and what a call that goes on has passed.
+use Rattle.std.proofs.Common.{◌≡◌, ℕ, ◌≤◌, Bool, true, false, cond, ltb, leb, List, ◌++◌, length, take, drop, Some, None, Ok, Err, Option, Result, refl, sym, ap, ◌∙◌, subst, arith, append_assoc, length-append, length-drop, length-take}
+use Rattle.std.proofs.lemmas.Bool.{le-leb}
+use Rattle.std.proofs.lemmas.List.{take-append-drop, drop-append-le}
+use Rattle.std.specs.Array.{IsFirstChunk}
+use Rattle.std.specs.Result.{IsOk, IsErrAnd}
+use Rattle.terms.specs.declared.refusal.Refusal.{Refusal}
+use Rattle.terms.specs.declared.refusal.Refusal.TheVariants.{CarrierTooNarrow, BufferTooShort}
 use Rattle.terms.specs.declared.role.Role.{Role}
 use Rattle.terms.specs.Buffers.{overlay}
 use Rattle.terms.proofs.Laid.{laid_front}
-use Rattle.carrier.specs.Rules.{Meaning}
+use Rattle.carrier.specs.Rules.{Meaning, FetchRules}
 use Rattle.ends.specs.declared.answer.Answer.{Answer}
-use Rattle.states.specs.declared.state.State.{State}
-use Rattle.states.specs.States.{EndValue}
-use Rattle.ends.specs.Puts.{put_length, put_into, front}
-use Rattle.ends.specs.Calls.{tick_refusal, Ticked, TickDone, Ticks, fetch_refusal, Fetched, FetchDone, Fetches, opening_refusal, opening_put}
-use Rattle.ends.specs.Steps.{Putting, PutStep, OpeningStepped, OpeningStep}
+use Rattle.ends.specs.Puts.{longest_frame, put_length, put_into, front, Fits}
+use Rattle.ends.specs.Calls.{call_refusal}
 
-pub front_is : (p : Option (List ℕ)) (out : List ℕ) → front (put_length p) (put_into p out) ≡ p
-front_is None out = refl
-front_is (Some s) out = ap Some (laid_front s out (overlay s out) (length s) refl refl)
+-- the start of a buffer with the buffer's rest is the buffer
+pub kept_out : (k : ℕ) (out ws : List ℕ) → IsFirstChunk out ws k → ws ++ drop k out ≡ out
+kept_out k out ws h = ap (λ l. l ++ drop k out) h.same ∙ take-append-drop k out
 
--- the string that was laid is the one that was put, whatever is said of it
-pub laid_put : (P : Option (List ℕ) → Type 0) (p : Option (List ℕ)) (out out' : List ℕ) (n : Option ℕ) → n ≡ put_length p → out' ≡ put_into p out → P (front n out') → P p
-laid_put P p out out' n en eo h = subst P (front_is p out) (subst (λ k. P (front k (put_into p out))) en (subst (λ o. P (front n o)) eo h))
+-- a string laid into the start of a buffer, which keeps its length: n is its length, ws is what the start became
+pub record Laid (p : Option (List ℕ)) (k : ℕ) (out : List ℕ) (n : Option ℕ) (ws : List ℕ) : Type 0 where
+  pub fits : Fits n (length ws)
+  pub front : front n ws ≡ p
+  pub output : ws ++ drop k out ≡ put_into p out
 
-pub ticks : (e e' : EndValue) (m m' : Meaning) (message out out' : List ℕ) (r : Answer) → tick_refusal e m.largest (length out) ≡ None
-    → TickDone e e' m m' message out out' r → Ticks e e' m m' message out out' r
-ticks e e' m m' message out out' r h d = subst (λ o. Ticked o e e' m m' message out out' r) (sym h) d
+laid_start : (p : Option (List ℕ)) (k : ℕ) (out ws : List ℕ) → IsFirstChunk out ws k → length (put_into p ws) ≡ k → Laid p k out (put_length p) (put_into p ws)
+laid_start None k out ws h l = record { fits = tt; front = refl; output = kept_out k out ws h }
+laid_start (Some s) k out ws h l =
+    let enough = h.enough in
+    let long : length ws ≡ k = ap length h.same ∙ simp length-take (omega arith) in
+    let within : length s ≤ length ws = omega (arith, length-append s (drop (length s) ws), length-drop (length s) ws) in
+    record {
+      fits = omega (arith, length-append s (drop (length s) ws));
+      front = ap Some (laid_front s ws (overlay s ws) (length s) refl refl);
+      output =
+          append_assoc s (drop (length s) ws) (drop k out)
+          ∙ ap (λ t. s ++ t) (sym (drop-append-le (length s) ws (drop k out) within) ∙ ap (λ t. drop (length s) t) (kept_out k out ws h));
+    }
 
-pub fetches : (e e' : EndValue) (m m' : Meaning) (buf buf' out out' : List ℕ) (r : Answer) → fetch_refusal e m.largest (length buf) (length out) ≡ None
-    → FetchDone e e' m m' buf buf' out out' r → Fetches e e' m m' buf buf' out out' r
-fetches e e' m m' buf buf' out out' r h d = subst (λ o. Fetched o e e' m m' buf buf' out out' r) (sym h) d
+pub laid_in : (p : Option (List ℕ)) (k : ℕ) (out ws ws' : List ℕ) (n : Option ℕ) → IsFirstChunk out ws k → length ws' ≡ k → n ≡ put_length p → ws' ≡ put_into p ws → Laid p k out n ws'
+laid_in p k out ws ws' n h l en ew =
+    subst (λ m. Laid p k out m ws') (sym en) (subst (λ w. Laid p k out (put_length p) w) (sym ew) (laid_start p k out ws h (ap length (sym ew) ∙ l)))
 
-pub opens : {C : Type 0} (putting : Putting C) (c d : C) (role : Role) (first : State) (largest : ℕ) (out : List ℕ) → opening_refusal largest (length out) ≡ None
-    → PutStep putting c d role (opening_put first) → OpeningStep putting c d role first largest out
-opens putting c d role first largest out h s = subst (λ o. OpeningStepped o putting c d role first) (sym h) s
+passed : (b : Bool) (x : Refusal) (rest r : Option Refusal) → None ≡ cond b (Some x) None → r ≡ rest → cond b (Some x) rest ≡ r
+passed true x rest r h e = let clash : ◌≡◌ {A = Option Refusal} None (Some x) = h in cc
+passed false x rest r h e = sym e
+
+-- the carrier and the buffers are passed, so the refusal is what the end says
+pub last_refusal : (largest : ℕ) (room : Bool) (end r : Option Refusal) → None ≡ cond (ltb largest longest_frame) (Some CarrierTooNarrow) None → room ≡ true → r ≡ end → call_refusal largest room end ≡ r
+last_refusal largest room end r carrier buffers e =
+    passed (ltb largest longest_frame) _ _ r carrier (e ∙ sym (ap (λ b. cond b end (Some BufferTooShort)) buffers))
+
+-- a fetch into a buffer that is long enough is not refused
+pub fetched : (m m' : Meaning) (at : Role) (buf buf' : List ℕ) (r : Result (Option ℕ) Refusal) → m.largest ≤ length buf → FetchRules m m' at buf buf' r → IsOk r
+fetched m m' at buf buf' (Ok x) h f = refl
+fetched m m' at buf buf' (Err e) h f = let short = f.short in absurd (omega arith)
+
+-- what `?` hands on
+pub failed : (r : Result Answer Refusal) (x : Refusal) → IsErrAnd r (λ y. y ≡ x) → r ≡ Err x
+failed (Ok a) x h = absurd h
+failed (Err e) x h = ap Err h

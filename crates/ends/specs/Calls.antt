@@ -1,5 +1,5 @@
 -- The calls on an end: what each answers, and what it leaves of end, carrier and buffers.
-use Rattle.std.specs.Prelude.{◌≡◌, ℕ, Bool, cond, ◌&&◌, List, [], length, take, Some, None, Ok, Option, Result, ◌==◌, nat_le, nat_lt}
+use Rattle.std.specs.Prelude.{◌≡◌, ℕ, Bool, cond, ◌&&◌, List, [], length, take, Some, None, Ok, Err, Option, Result, ◌==◌, nat_le, nat_lt}
 use Rattle.terms.specs.declared.refusal.Refusal.{Refusal}
 use Rattle.terms.specs.declared.refusal.Refusal.TheVariants as refusal
 use Rattle.terms.specs.declared.role.Role.{Role}
@@ -50,6 +50,11 @@ opening_refusal largest out = call_refusal largest (nat_le longest_frame out) No
 
 abbrev pub answering : EndValue → Option Refusal → Option Place → Option (List ℕ) → Answer
 answering e refused delivered put = record { refused = refused; status = status_of e.state; delivered = delivered; put = put_length put }
+
+-- the answer of a call that was tried: one that was refused puts and delivers nothing
+abbrev pub answer_of : EndValue → Result Answer Refusal → Answer
+answer_of e (Ok r) = r
+answer_of e (Err x) = answering e (Some x) None None
 
 -- What a put leaves of the carrier: where it was not asked, it is as it was; else what it kept is open, within the carrier's rules.
 pub record PutDone (m m' : Meaning) (from : Role) (s : List ℕ) : Type 0 where

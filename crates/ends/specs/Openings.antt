@@ -1,5 +1,6 @@
 -- Openings: what each answers, and what it leaves of carrier and buffer.
 use Rattle.std.specs.Prelude.{◌≡◌, ℕ, List, length, Some, None, Ok, Err, Result}
+use Rattle.terms.specs.declared.refusal.Refusal.{Refusal}
 use Rattle.terms.specs.declared.role.Role.{Role}
 use Rattle.terms.specs.declared.role.Role.TheVariants.{Initiator, Responder}
 use Rattle.carrier.specs.Rules.{Meaning}
@@ -27,6 +28,11 @@ pub record OpenDone (v : Values) (role : Role) (first : State) (m m' : Meaning) 
 abbrev pub OpensAs : {N : Type 0} → Values → N → Role → State → Meaning → Meaning → List ℕ → List ℕ → Result Opened (NotOpened N) → Type 0
 OpensAs v numbers role first m m' out out' (Ok o) = OpenDone v role first m m' out out' o
 OpensAs v numbers role first m m' out out' (Err x) = OpenRefused numbers m m' out out' x
+
+-- the same where the numbers of a refused opening are still to be handed back
+abbrev pub handed_back : {N : Type 0} → N → Result Opened Refusal → Result Opened (NotOpened N)
+handed_back numbers (Ok o) = Ok o
+handed_back numbers (Err x) = Err record { refusal = x; numbers = numbers }
 
 abbrev pub OpensInitiator : Values → InitiatorNumbers → Meaning → Meaning → List ℕ → List ℕ → Result Opened (NotOpened InitiatorNumbers) → Type 0
 OpensInitiator v numbers = OpensAs v numbers Initiator (state.WaitAu2 numbers.rb.value numbers.rc.value)

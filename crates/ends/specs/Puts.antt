@@ -20,10 +20,6 @@ abbrev pub front : Option ℕ → List ℕ → Option (List ℕ)
 front None out = None
 front (Some n) out = Some (take n out)
 
-abbrev pub Short : Option ℕ → Type 0
-Short None = Unit {0}
-Short (Some n) = n ≤ longest_frame
-
 -- within a buffer of so many bytes
 abbrev pub Fits : Option ℕ → ℕ → Type 0
 Fits None size = Unit {0}

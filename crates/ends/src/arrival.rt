@@ -41,10 +41,7 @@ fn typed(role: Role, most: usize, first: u8, body: &[u8]) -> Result<Frame<'_>, R
     if first % 2 != role.flag() {
         return Err(flag_reason(role));
     }
-    match Frame::read_typed(kind, role, most, body) {
-        Ok(frame) => Ok(frame),
-        Err(refusal) => Err(frame_reason(kind, refusal)),
-    }
+    Frame::read_typed(kind, role, most, body).map_err(|refusal| frame_reason(kind, refusal))
 }
 
 // Judges a string that arrives at an end of this role, where a message has at most `most` bytes.

@@ -1,55 +1,58 @@
 // The calls on an end: tick, fetch, stop.
-ghost use Rattle.std.specs.Prelude.{◌≡◌, ◌≤◌, ◌&&◌, length, Some, None, nat_le};
+ghost use Rattle.std.specs.Prelude.{◌≡◌, ◌≤◌, cond, length, Some, None, nat_lt};
+ghost use Rattle.std.specs.Result.{result_err};
 ghost use Rattle.terms.specs.Numbers.{Bytes};
-ghost use Rattle.ends.specs.Calls.{answering, call_refusal, out_refusal, tick_refusal, fetch_refusal, message_refusal, said, Ticks, Fetches, Stops, Puts};
+ghost use Rattle.ends.specs.Calls.{answer_of, out_refusal, message_refusal, said, Ticks, Fetches, Stops, Puts};
 ghost use Rattle.ends.specs.Ends.{end_value};
 ghost use Rattle.ends.specs.Steps.{PutStep, TickStep, FetchStep, StopStep};
 ghost use Rattle.states.specs.States.{status_of};
 ghost use Rattle.ends.specs.Ways.{tick_way, fetch_way};
 ghost use Rattle.ends.specs.Effects.{after_tick, after_fetch, tick_put, fetch_put, delivers};
-ghost use Rattle.ends.specs.Puts.{longest_frame, front, put_length, put_into, Short, Fits};
+ghost use Rattle.ends.specs.Puts.{longest_frame, front, put_length, put_into, Fits};
 
 use super::answer::{Answer, Place};
 use super::end::End;
+use super::frames::FrameBuffer;
 use super::session::StopToken;
 use super::ways::FetchWay;
 use carrier::Carrier;
 use states::reason::Reason;
 use states::state::State;
+use terms::lengths::LONGEST_FRAME;
 use terms::refusal::Refusal;
 use terms::role::Role;
 
-// The longest frame: a carrier takes it, and an output buffer holds it.
-const LONGEST_FRAME: usize = 1041;
-
-// First the carrier, then the buffers, then what else there is.
-pub(crate) fn refusal(largest: usize, room: bool, other: Option<Refusal>) -> Option<Refusal>
-    ensures { result ≡ call_refusal largest room other }
+// Whether the carrier takes every frame: what each call asks first.
+pub(crate) fn takes_frames<C: Carrier>(carrier: &C) -> Result<(), Refusal>
+    ensures { result_err result ≡ cond (nat_lt (C.meaning carrier.now).largest longest_frame) (Some Refusal.CarrierTooNarrow) None }
 {
-    if largest < LONGEST_FRAME {
-        Some(Refusal::CarrierTooNarrow)
-    } else if !room {
-        Some(Refusal::BufferTooShort)
-    } else {
-        other
+    if carrier.max_len() < LONGEST_FRAME {
+        return Err(Refusal::CarrierTooNarrow);
     }
-}
-
-// Whether a fetch buffer and an output buffer are long enough.
-fn has_room(largest: usize, buf: usize, out: usize) -> bool
-    ensures { result ≡ (nat_le largest buf && nat_le longest_frame out) }
-{
-    largest <= buf && LONGEST_FRAME <= out
+    Ok(())
 }
 
 // Puts what stands at the start of `out`, if anything was laid there.
-pub(crate) fn put<C: Carrier>(carrier: &mut C, from: Role, laid: Option<usize>, out: &[u8])
+pub(crate) fn put<C: Carrier>(carrier: &mut C, from: Role, laid: Option<usize>, out: &FrameBuffer)
     requires { Fits laid (length out.now) }
     ensures rules { Puts (C.meaning carrier.old) (C.meaning carrier.new) from (front laid out.now) }
     ensures exact { PutStep C.putting carrier.old carrier.new from (front laid out.now) }
 {
     if let Some(n) = laid {
         let _ = carrier.put(from, &out[0..n]);
+    }
+}
+
+// Where the message of a data frame of `n` bytes stands, if one was accepted and has any.
+fn place(way: FetchWay, n: usize) -> Option<Place>
+    ensures { result ≡ delivers way n }
+{
+    match way {
+        FetchWay::Takes { .. } if n > 18 => Some(Place {
+            from: 10,
+            to: n - 8,
+        }),
+        _ => None,
     }
 }
 
@@ -71,42 +74,45 @@ impl End {
         }
     }
 
-    fn out_refusal(&self) -> Option<Refusal>
-        ensures { result ≡ out_refusal self.now.state }
+    // The answer of a call that was tried; one that was refused has done nothing.
+    fn answer_of(&self, tried: Result<Answer, Refusal>) -> Answer
+        ensures { result ≡ answer_of (end_value self.now) tried }
     {
-        match self.state {
-            State::Out(_) => Some(Refusal::EndIsOut),
-            _ => None,
+        match tried {
+            Ok(answer) => answer,
+            Err(refused) => self.answer(Some(refused), None, None),
         }
     }
-}
 
-// Where the message of a data frame of `n` bytes stands, if one was accepted and has any.
-fn place(way: FetchWay, n: usize) -> Option<Place>
-    ensures { result ≡ delivers way n }
-{
-    match way {
-        FetchWay::Takes { .. } => {
-            if n > 18 {
-                Some(Place {
-                    from: 10,
-                    to: n - 8,
-                })
-            } else {
-                None
-            }
+    // Whether the end is not out: what a call asks last.
+    fn is_running(&self) -> Result<(), Refusal>
+        ensures { result_err result ≡ out_refusal self.now.state }
+    {
+        match self.state {
+            State::Out(_) => Err(Refusal::EndIsOut),
+            _ => Ok(()),
         }
-        _ => None,
     }
 }
 
 impl End {
-    // Why a message is refused though the tick goes on; the end is as it is after the tick.
+    // The message that goes out: one that is too long is left out.
+    fn said<'a>(&self, message: &'a [u8]) -> &'a [u8]
+        ensures value { result.now ≡ said (end_value self.now).values message.now }
+        ensures short { length result.now ≤ 1023 }
+    {
+        if message.len() <= usize::from(self.params.values().longest) {
+            message
+        } else {
+            &[]
+        }
+    }
+
+    // Why a message is refused though the tick goes on; the end is as it is after the tick. No `Result`: nothing hangs on it but the answer.
     fn message_refusal(&self, len: usize) -> Option<Refusal>
         ensures { result ≡ message_refusal (end_value self.now).values len self.now.state }
     {
-        let v = self.params.values();
-        if len > usize::from(v.longest) {
+        if len > usize::from(self.params.values().longest) {
             return Some(Refusal::MessageTooLong);
         }
         match self.state {
@@ -117,22 +123,34 @@ impl End {
     }
 
     // A tick that is not refused: the frame it puts is laid at the start of `out`.
-    fn go_on(&mut self, message: &[u8], out: &mut [u8]) -> Option<usize>
-        requires { longest_frame ≤ length out.old }
+    fn go_on(&mut self, message: &[u8], out: &mut FrameBuffer) -> Option<usize>
         ensures end { end_value self.new ≡ after_tick (end_value self.old) (tick_way (end_value self.old)) }
         ensures value { result ≡ put_length (tick_put (end_value self.old) (tick_way (end_value self.old)) (said (end_value self.old).values message.now)) }
         ensures after { out.new ≡ put_into (tick_put (end_value self.old) (tick_way (end_value self.old)) (said (end_value self.old).values message.now)) out.old }
-        ensures short { Short result }
     {
         let way = self.tick_way();
-        let v = self.params.values();
-        let laid = if message.len() <= usize::from(v.longest) {
-            self.lay_tick(way, message, out)
-        } else {
-            self.lay_tick(way, &[], out)
-        };
+        let laid = self.lay_tick(way, self.said(message), out);
         self.follow_tick(way);
         laid
+    }
+
+    fn try_tick<C: Carrier>(
+        &mut self,
+        carrier: &mut C,
+        message: &[u8],
+        out: &mut [u8],
+    ) -> Result<Answer, Refusal>
+        ensures rules { Ticks (end_value self.old) (end_value self.new) (C.meaning carrier.old) (C.meaning carrier.new) message.now out.old out.new (answer_of (end_value self.new) result) }
+        ensures exact { TickStep C.putting carrier.old carrier.new (end_value self.old) (C.meaning carrier.old).largest message.now out.old }
+    {
+        takes_frames(carrier)?;
+        let Some(room) = out.first_chunk_mut::<LONGEST_FRAME>() else {
+            return Err(Refusal::BufferTooShort);
+        };
+        self.is_running()?;
+        let laid = self.go_on(message, room);
+        put(carrier, self.role, laid, room);
+        Ok(self.answer(self.message_refusal(message.len()), None, laid))
     }
 
     // One tick of the end, with a message, which may be empty.
@@ -140,25 +158,18 @@ impl End {
         ensures rules { Ticks (end_value self.old) (end_value self.new) (C.meaning carrier.old) (C.meaning carrier.new) message.now out.old out.new result }
         ensures exact { TickStep C.putting carrier.old carrier.new (end_value self.old) (C.meaning carrier.old).largest message.now out.old }
     {
-        let room = out.len() >= LONGEST_FRAME;
-        if let Some(refused) = refusal(carrier.max_len(), room, self.out_refusal()) {
-            return self.answer(Some(refused), None, None);
-        }
-        let laid = self.go_on(message, out);
-        put(carrier, self.role, laid, out);
-        self.answer(self.message_refusal(message.len()), None, laid)
+        let tried = self.try_tick(carrier, message, out);
+        self.answer_of(tried)
     }
 }
 
 impl End {
     // What a fetched string does: the frame it makes the end put is laid at the start of `out`.
-    fn take(&mut self, s: &[u8], out: &mut [u8]) -> (Option<Place>, Option<usize>)
-        requires { longest_frame ≤ length out.old }
+    fn take(&mut self, s: &[u8], out: &mut FrameBuffer) -> (Option<Place>, Option<usize>)
         ensures end { end_value self.new ≡ after_fetch (end_value self.old) (fetch_way (end_value self.old) s.now) }
         ensures place { result.0 ≡ delivers (fetch_way (end_value self.old) s.now) (length s.now) }
         ensures value { result.1 ≡ put_length (fetch_put (end_value self.old) (fetch_way (end_value self.old) s.now)) }
         ensures after { out.new ≡ put_into (fetch_put (end_value self.old) (fetch_way (end_value self.old) s.now)) out.old }
-        ensures short { Short result.1 }
         ensures octets { Bytes s.now }
     {
         let way = self.fetch_way(s);
@@ -167,28 +178,38 @@ impl End {
         (place(way, s.len()), laid)
     }
 
+    fn try_fetch<C: Carrier>(
+        &mut self,
+        carrier: &mut C,
+        buf: &mut [u8],
+        out: &mut [u8],
+    ) -> Result<Answer, Refusal>
+        ensures rules { Fetches (end_value self.old) (end_value self.new) (C.meaning carrier.old) (C.meaning carrier.new) buf.old buf.new out.old out.new (answer_of (end_value self.new) result) }
+        ensures exact { FetchStep C.putting C.fetching carrier.old carrier.new (end_value self.old) (end_value self.new) (C.meaning carrier.old).largest buf.old buf.new out.old out.new (answer_of (end_value self.new) result) }
+    {
+        takes_frames(carrier)?;
+        if buf.len() < carrier.max_len() {
+            return Err(Refusal::BufferTooShort);
+        }
+        let Some(room) = out.first_chunk_mut::<LONGEST_FRAME>() else {
+            return Err(Refusal::BufferTooShort);
+        };
+        self.is_running()?;
+        let Some(n) = carrier.fetch(self.role, buf).unwrap() else {
+            return Ok(self.answer(None, None, None));
+        };
+        let (delivered, laid) = self.take(&buf[0..n], room);
+        put(carrier, self.role, laid, room);
+        Ok(self.answer(None, delivered, laid))
+    }
+
     // Takes what comes out of the carrier, if anything does.
     pub fn fetch<C: Carrier>(&mut self, carrier: &mut C, buf: &mut [u8], out: &mut [u8]) -> Answer
         ensures rules { Fetches (end_value self.old) (end_value self.new) (C.meaning carrier.old) (C.meaning carrier.new) buf.old buf.new out.old out.new result }
         ensures exact { FetchStep C.putting C.fetching carrier.old carrier.new (end_value self.old) (end_value self.new) (C.meaning carrier.old).largest buf.old buf.new out.old out.new result }
     {
-        let largest = carrier.max_len();
-        if let Some(refused) = refusal(
-            largest,
-            has_room(largest, buf.len(), out.len()),
-            self.out_refusal(),
-        ) {
-            return self.answer(Some(refused), None, None);
-        }
-        match carrier.fetch(self.role, buf) {
-            Ok(Some(n)) => {
-                let (delivered, laid) = self.take(&buf[0..n], out);
-                put(carrier, self.role, laid, out);
-                self.answer(None, delivered, laid)
-            }
-            Ok(None) => self.answer(None, None, None),
-            Err(_) => unreachable(),
-        }
+        let tried = self.try_fetch(carrier, buf, out);
+        self.answer_of(tried)
     }
 
     // Takes the token back, and releases the end unless it is out.

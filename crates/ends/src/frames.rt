@@ -1,14 +1,14 @@
 // The frames that an end puts, laid into its output buffer.
-ghost use Rattle.std.specs.Prelude.{◌≡◌, ◌<◌, ◌≤◌, true, [], length};
+ghost use Rattle.std.specs.Prelude.{◌≡◌, ◌<◌, ◌≤◌, true, length};
 ghost use Rattle.terms.specs.Buffers.{overlay};
-ghost use Rattle.codec.specs.Frames.{au2, au3, ar, di, frame_value, bytes_of, sized};
+ghost use Rattle.codec.specs.Frames.{frame_value, bytes_of, sized};
 ghost use Rattle.terms.specs.Roles.{far};
 ghost use Rattle.codec.specs.Sealing.{sealed};
-ghost use Rattle.codec.specs.Telegrams.{ec_start, telegram_bytes, content_bytes, content_value};
+ghost use Rattle.codec.specs.Telegrams.{telegram_bytes, content_bytes, content_value};
 ghost use Rattle.ends.specs.Ends.{end_value};
-ghost use Rattle.ends.specs.Puts.{longest_frame, put_length, put_into, Short};
+ghost use Rattle.ends.specs.Puts.{longest_frame, put_length, put_into};
 ghost use Rattle.ends.specs.Calls.{opening_put};
-ghost use Rattle.ends.specs.Effects.{risen, Room, Numbered, release_frame, data_frame, start_frame, ack_frame, sent_frame, tick_put, answer_first, answer_up, fetch_put, put_telegram, put_opening};
+ghost use Rattle.ends.specs.Effects.{risen, Room, Numbered, release_frame, start_frame, ack_frame, sent_frame, tick_put, answer_up, fetch_put, put_telegram, put_opening};
 
 use super::end::End;
 use super::ways::{Exchange, FetchWay, TickWay};
@@ -20,56 +20,25 @@ use safety::word::SafetyWord;
 use states::reason::Reason;
 use states::state::State;
 use terms::counters::{ExecutionCycle, SequenceNumber};
+use terms::lengths::LONGEST_FRAME;
 use terms::role::Role;
 
-fn au2(ra_xor_rb: u64) -> Frame<'static>
-    ensures { frame_value result ≡ au2 ra_xor_rb }
-{
-    Frame::Au2 { ra_xor_rb }
-}
-
-fn au3(ra_xor_rc: u64) -> Frame<'static>
-    ensures { frame_value result ≡ au3 ra_xor_rc }
-{
-    Frame::Au3 { ra_xor_rc }
-}
-
-fn ar(rb: u64) -> Frame<'static>
-    ensures { frame_value result ≡ ar rb }
-{
-    Frame::Ar { rb }
-}
-
-fn di(towards: Role, codes: ReasonCodes) -> Frame<'static>
-    ensures { frame_value result ≡ di towards codes }
-{
-    Frame::Di { towards, codes }
-}
-
-fn ec_start(version: u8, period: u16) -> Content<'static>
-    ensures { content_value result ≡ ec_start version period }
-{
-    Content::EcStart { version, period }
-}
+// The start of an output buffer, in which each frame finds its place.
+pub(crate) type FrameBuffer = [u8; LONGEST_FRAME];
 
 // Lays a frame of the opening, or a release, at the start of `out`.
-pub(crate) fn lay_frame(frame: Frame<'_>, out: &mut [u8]) -> usize
-    requires { (length (bytes_of (frame_value frame)) ≤ length out.old) × (sized (frame_value frame) ≡ true) }
+fn lay_frame(frame: Frame<'_>, out: &mut FrameBuffer) -> usize
+    requires { (length (bytes_of (frame_value frame)) ≤ longest_frame) × (sized (frame_value frame) ≡ true) }
     ensures value { result ≡ length (bytes_of (frame_value frame.entry)) }
     ensures after { out.new ≡ overlay (bytes_of (frame_value frame.entry)) out.old }
 {
-    match frame.write(out) {
-        Ok(n) => n,
-        Err(_) => unreachable(),
-    }
+    frame.write(out).unwrap()
 }
 
 // The frame that an opening puts, by the state in which the end begins.
-pub(crate) fn lay_first(state: State, out: &mut [u8]) -> Option<usize>
-    requires { longest_frame ≤ length out.old }
+pub(crate) fn lay_first(state: State, out: &mut FrameBuffer) -> Option<usize>
     ensures value { result ≡ put_length (opening_put state) }
     ensures after { out.new ≡ put_into (opening_put state) out.old }
-    ensures short { Short result }
 {
     match state {
         State::WaitAu2 { rb, .. } => Some(lay_frame(Frame::Au1 { rb }, out)),
@@ -78,12 +47,15 @@ pub(crate) fn lay_first(state: State, out: &mut [u8]) -> Option<usize>
 }
 
 impl End {
-    pub(crate) fn lay_release(&self, reason: Reason, out: &mut [u8]) -> usize
-        requires { longest_frame ≤ length out.old }
+    pub(crate) fn lay_release(&self, reason: Reason, out: &mut FrameBuffer) -> usize
         ensures value { result ≡ length (release_frame (end_value self.now) reason) }
         ensures after { out.new ≡ overlay (release_frame (end_value self.now) reason) out.old }
     {
-        lay_frame(di(self.role.far(), reason.into()), out)
+        let release = Frame::Di {
+            towards: self.role.far(),
+            codes: ReasonCodes::from(reason),
+        };
+        lay_frame(release, out)
     }
 
     // A data frame towards the far end, sealed with the word.
@@ -93,28 +65,23 @@ impl End {
         sn: SequenceNumber,
         ec: ExecutionCycle,
         content: Content<'_>,
-        out: &mut [u8],
+        out: &mut FrameBuffer,
     ) -> usize
-        requires { (longest_frame ≤ length out.old) × (length (content_bytes (content_value content)) ≤ 1023) }
+        requires { length (content_bytes (content_value content)) ≤ 1023 }
         ensures value { result ≡ length (sealed (far self.now.role) (telegram_bytes (record { sn = sn.0; ec = ec.0; content = content_value content.entry })) word.0) }
         ensures after { out.new ≡ overlay (sealed (far self.now.role) (telegram_bytes (record { sn = sn.0; ec = ec.0; content = content_value content.entry })) word.0) out.old }
-        ensures short { result ≤ longest_frame }
     {
         let telegram = Telegram { sn, ec, content };
-        match seal(self.role.far(), telegram, word, out) {
-            Ok(n) => n,
-            Err(_) => unreachable(),
-        }
+        seal(self.role.far(), telegram, word, out).unwrap()
     }
 }
 
 impl End {
     // AM or AM+REQ, which a tick in up puts; it bears the EC that the tick has brought.
-    fn lay_sent(&self, asks: bool, message: &[u8], out: &mut [u8]) -> Option<usize>
-        requires { (longest_frame ≤ length out.old) × ((length message.now ≤ 1023) × ((self.now.ec.0 < 4294967295) × (Numbered self.now.state))) }
+    fn lay_sent(&self, asks: bool, message: &[u8], out: &mut FrameBuffer) -> Option<usize>
+        requires { (length message.now ≤ 1023) × ((self.now.ec.0 < 4294967295) × (Numbered self.now.state)) }
         ensures value { result ≡ put_length (sent_frame (risen (end_value self.now)) asks message.now self.now.state) }
         ensures after { out.new ≡ put_into (sent_frame (risen (end_value self.now)) asks message.now self.now.state) out.old }
-        ensures short { Short result }
     {
         let State::Up { words, sent, .. } = self.state else {
             return None;
@@ -129,11 +96,15 @@ impl End {
     }
 
     // The frame that a tick puts.
-    pub(crate) fn lay_tick(&self, way: TickWay, message: &[u8], out: &mut [u8]) -> Option<usize>
-        requires { (longest_frame ≤ length out.old) × ((length message.now ≤ 1023) × (Room (end_value self.now) way)) }
+    pub(crate) fn lay_tick(
+        &self,
+        way: TickWay,
+        message: &[u8],
+        out: &mut FrameBuffer,
+    ) -> Option<usize>
+        requires { (length message.now ≤ 1023) × (Room (end_value self.now) way) }
         ensures value { result ≡ put_length (tick_put (end_value self.now) way message.now) }
         ensures after { out.new ≡ put_into (tick_put (end_value self.now) way message.now) out.old }
-        ensures short { Short result }
     {
         match way {
             TickWay::UsedUp => Some(self.lay_release(Reason::CounterUsedUp, out)),
@@ -146,27 +117,21 @@ impl End {
 }
 
 impl End {
-    fn lay_start(&self, word: SafetyWord, out: &mut [u8]) -> usize
-        requires { longest_frame ≤ length out.old }
+    fn lay_start(&self, word: SafetyWord, out: &mut FrameBuffer) -> usize
         ensures value { result ≡ length (start_frame (end_value self.now) word) }
         ensures after { out.new ≡ overlay (start_frame (end_value self.now) word) out.old }
-        ensures short { result ≤ longest_frame }
     {
         let v = self.params.values();
-        self.lay_data(
-            word,
-            SequenceNumber(0),
-            self.ec,
-            ec_start(v.version, v.period.0),
-            out,
-        )
+        let content = Content::EcStart {
+            version: v.version,
+            period: v.period.0,
+        };
+        self.lay_data(word, SequenceNumber(0), self.ec, content, out)
     }
 
-    fn lay_ack(&self, word: SafetyWord, sn: SequenceNumber, out: &mut [u8]) -> usize
-        requires { longest_frame ≤ length out.old }
+    fn lay_ack(&self, word: SafetyWord, sn: SequenceNumber, out: &mut FrameBuffer) -> usize
         ensures value { result ≡ length (ack_frame (end_value self.now) word sn.0) }
         ensures after { out.new ≡ overlay (ack_frame (end_value self.now) word sn.0) out.old }
-        ensures short { result ≤ longest_frame }
     {
         self.lay_data(word, sn, self.ec, Content::AmAck(&[]), out)
     }
@@ -177,29 +142,24 @@ impl End {
         word: SafetyWord,
         sent: SequenceNumber,
         kind: Exchange,
-        out: &mut [u8],
+        out: &mut FrameBuffer,
     ) -> Option<usize>
-        requires { longest_frame ≤ length out.old }
         ensures value { result ≡ put_length (answer_up (end_value self.now) word sent kind) }
         ensures after { out.new ≡ put_into (answer_up (end_value self.now) word sent kind) out.old }
-        ensures short { Short result }
     {
         match kind {
-            Exchange::Req => {
-                if sent.0 == u32::MAX {
-                    return Some(self.lay_release(Reason::CounterUsedUp, out));
-                }
-                Some(self.lay_ack(word, SequenceNumber(sent.0 + 1), out))
-            }
+            Exchange::Req if sent.0 == u32::MAX => Some(self.lay_release(
+                Reason::CounterUsedUp,
+                out,
+            )),
+            Exchange::Req => Some(self.lay_ack(word, SequenceNumber(sent.0 + 1), out)),
             _ => None,
         }
     }
 
-    fn lay_telegram(&self, kind: Exchange, out: &mut [u8]) -> Option<usize>
-        requires { longest_frame ≤ length out.old }
+    fn lay_telegram(&self, kind: Exchange, out: &mut FrameBuffer) -> Option<usize>
         ensures value { result ≡ put_length (put_telegram (end_value self.now) kind self.now.state) }
         ensures after { out.new ≡ put_into (put_telegram (end_value self.now) kind self.now.state) out.old }
-        ensures short { Short result }
     {
         match (self.state, kind) {
             (State::WaitFirst { words, .. }, Exchange::Req) => Some(self.lay_ack(
@@ -213,23 +173,21 @@ impl End {
     }
 
     // The frame of the opening that a fetch puts.
-    fn lay_opening(&self, way: FetchWay, out: &mut [u8]) -> Option<usize>
-        requires { longest_frame ≤ length out.old }
+    fn lay_opening(&self, way: FetchWay, out: &mut FrameBuffer) -> Option<usize>
         ensures value { result ≡ put_length (put_opening (end_value self.now) way) }
         ensures after { out.new ≡ put_into (put_opening (end_value self.now) way) out.old }
-        ensures short { Short result }
     {
         match (way, self.state) {
             (FetchWay::AnswersAu1 { rb }, State::Listen { ra }) => Some(lay_frame(
-                au2(ra ^ rb),
+                Frame::Au2 { ra_xor_rb: ra ^ rb },
                 out,
             )),
             (FetchWay::AnswersAu2 { ra }, State::WaitAu2 { rc, .. }) => Some(lay_frame(
-                au3(ra ^ rc),
+                Frame::Au3 { ra_xor_rc: ra ^ rc },
                 out,
             )),
             (FetchWay::AnswersAu3 { .. }, State::WaitAu3 { rb, .. }) => Some(lay_frame(
-                ar(rb),
+                Frame::Ar { rb },
                 out,
             )),
             _ => None,
@@ -237,25 +195,19 @@ impl End {
     }
 
     // The frame that a fetch puts.
-    pub(crate) fn lay_fetch(&self, way: FetchWay, out: &mut [u8]) -> Option<usize>
-        requires { longest_frame ≤ length out.old }
+    pub(crate) fn lay_fetch(&self, way: FetchWay, out: &mut FrameBuffer) -> Option<usize>
         ensures value { result ≡ put_length (fetch_put (end_value self.now) way) }
         ensures after { out.new ≡ put_into (fetch_put (end_value self.now) way) out.old }
-        ensures short { Short result }
     {
         match (way, self.state, self.role) {
-            (FetchWay::Drops, _, _) => None,
-            (FetchWay::LeftByFar(_), _, _) => None,
             (FetchWay::Releases(reason), _, _) => Some(self.lay_release(reason, out)),
             (FetchWay::AnswersAr, State::WaitAr { ra, rc, .. }, _) => Some(self.lay_start(
                 self.words(ra, rc).write,
                 out,
             )),
-            (FetchWay::AnswersAr, _, _) => None,
             (FetchWay::Starts { .. }, State::WaitEc { words }, Role::Responder) => Some(
                 self.lay_start(words.write, out),
             ),
-            (FetchWay::Starts { .. }, _, _) => None,
             (FetchWay::Takes { kind, .. }, _, _) => self.lay_telegram(kind, out),
             _ => self.lay_opening(way, out),
         }

@@ -3,12 +3,12 @@ ghost use Rattle.std.specs.Prelude.{◌≡◌};
 ghost use Rattle.terms.specs.declared.role.Role.TheVariants.{Initiator, Responder};
 ghost use Rattle.states.specs.declared.state.State.TheVariants.{WaitAu2, Listen};
 ghost use Rattle.ends.specs.Calls.{opened};
-ghost use Rattle.ends.specs.Openings.{OpensAs};
+ghost use Rattle.ends.specs.Openings.{handed_back, OpensAs};
 ghost use Rattle.ends.specs.Ends.{end_value};
 ghost use Rattle.ends.specs.Steps.{OpeningStep};
 
 use super::answer::Answer;
-use super::calls::{put, refusal};
+use super::calls::{put, takes_frames};
 use super::end::End;
 use super::frames::lay_first;
 use super::sealed::Sealed;
@@ -97,6 +97,31 @@ fn first(params: Params, role: Role, state: State) -> End
     }
 }
 
+// The same as `End::open`, but for the numbers: the caller has them to hand back.
+fn try_open<C: Carrier, N: SessionNumbers>(
+    params: Params,
+    numbers: &N,
+    carrier: &mut C,
+    out: &mut [u8],
+) -> Result<Opened, Refusal>
+    ensures rules { OpensAs params.values numbers.now N.role (N.first numbers.now) (C.meaning carrier.old) (C.meaning carrier.new) out.old out.new (handed_back numbers.now result) }
+    ensures exact { OpeningStep C.putting carrier.old carrier.new N.role (N.first numbers.now) (C.meaning carrier.old).largest out.old }
+{
+    takes_frames(carrier)?;
+    let Some(room) = out.first_chunk_mut::<LONGEST_FRAME>() else {
+        return Err(Refusal::BufferTooShort);
+    };
+    let end = first(params, N::role(), numbers.first_state());
+    let laid = lay_first(end.state, room);
+    put(carrier, end.role, laid, room);
+    let answer = end.answer(None, None, laid);
+    Ok(Opened {
+        end,
+        token: StopToken { spent: () },
+        answer,
+    })
+}
+
 impl End {
     // Opens an end of the party whose numbers these are, which puts the frame of its first state, if that has one.
     pub fn open<C: Carrier, N: SessionNumbers>(
@@ -108,17 +133,6 @@ impl End {
         ensures rules { OpensAs params.values numbers N.role (N.first numbers) (C.meaning carrier.old) (C.meaning carrier.new) out.old out.new result }
         ensures exact { OpeningStep C.putting carrier.old carrier.new N.role (N.first numbers) (C.meaning carrier.old).largest out.old }
     {
-        if let Some(refusal) = refusal(carrier.max_len(), out.len() >= LONGEST_FRAME, None) {
-            return Err(NotOpened { refusal, numbers });
-        }
-        let end = first(params, N::role(), numbers.first_state());
-        let laid = lay_first(end.state, out);
-        put(carrier, end.role, laid, out);
-        let answer = end.answer(None, None, laid);
-        Ok(Opened {
-            end,
-            token: StopToken { spent: () },
-            answer,
-        })
+        try_open(params, &numbers, carrier, out).map_err(|refusal| NotOpened { refusal, numbers })
     }
 }

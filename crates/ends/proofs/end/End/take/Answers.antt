@@ -9,6 +9,5 @@ returns c =
       place = search rules;
       value = search rules;
       after = search rules;
-      short = search rules;
       octets = Bytes-all c.args.s.now (λ i h. omega (arith, c.type_inv.s i));
     }
