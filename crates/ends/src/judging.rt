@@ -18,64 +18,61 @@ use params::values::Values;
 use safety::word::SafetyWord;
 use states::reason::Reason;
 use states::state::{State, Words};
-use terms::counters::{ExecutionCycle, SequenceNumber};
+use terms::counters::{ExecutionCycle, SequenceNumber, Ticks};
 use terms::role::Role;
 
 // A way out where the count is above a limit.
-fn limit(limit: u32, count: u64, way: TickWay) -> TickWay
-    ensures value { result ≡ limited limit count way }
+fn limit(limit: Ticks, count: u64, way: TickWay) -> TickWay
+    ensures value { result ≡ limited limit.0 count way }
     ensures room { (st : State) → SendsRoom st way → SendsRoom st result }
 {
-    if u64::from(limit) < count {
+    if u64::from(limit.0) < count {
         way
     } else {
         TickWay::Silent
     }
 }
 
-fn tick_up(v: &Values, count: u64, sent: SequenceNumber) -> TickWay
-    ensures value { result ≡ up_way v.now count sent }
-    ensures room { (words : Words) (last : SequenceNumber) (synced : ExecutionCycle) → SendsRoom (State.Up words sent last synced) result }
-{
-    if u64::from(v.ask.0) + u64::from(v.wait.0) < count {
-        TickWay::Releases(Reason::AckTimeout)
-    } else if sent.0 == u32::MAX {
-        TickWay::Releases(Reason::CounterUsedUp)
-    } else {
-        TickWay::Sends {
-            asks: count == u64::from(v.ask.0),
+impl End {
+    // In up: no AM+ACK in time, no number left, or a telegram goes out.
+    fn up_way(&self, count: u64, sent: SequenceNumber) -> TickWay
+        ensures value { result ≡ up_way (end_value self.now).values count sent }
+        ensures room { (words : Words) (last : SequenceNumber) (synced : ExecutionCycle) → SendsRoom (State.Up words sent last synced) result }
+    {
+        let v = self.params.values();
+        let ask = u64::from(v.ask.0);
+        if ask + u64::from(v.wait.0) < count {
+            TickWay::Releases(Reason::AckTimeout)
+        } else if sent.0 == u32::MAX {
+            TickWay::Releases(Reason::CounterUsedUp)
+        } else {
+            TickWay::Sends { asks: count == ask }
         }
     }
-}
 
-// By state, at the count that the tick has brought.
-fn tick_risen(v: &Values, role: Role, count: u64, state: State) -> TickWay
-    ensures value { result ≡ risen_way v.now role count state }
-    ensures room { SendsRoom state result }
-{
-    match (state, role) {
-        (State::WaitAu2 { .. }, _) => limit(v.setup.0, count, TickWay::Abandons),
-        (State::WaitAr { .. }, _) => limit(
-            v.setup.0,
-            count,
-            TickWay::Releases(Reason::SetupTimeout),
-        ),
-        (State::WaitEc { .. }, Role::Initiator) => limit(
-            v.wait.0,
-            count,
-            TickWay::Releases(Reason::FirstTimeout),
-        ),
-        (State::WaitFirst { .. }, _) => limit(
-            v.wait.0,
-            count,
-            TickWay::Releases(Reason::FirstTimeout),
-        ),
-        (State::Up { sent, .. }, _) => tick_up(v, count, sent),
-        _ => TickWay::Silent,
+    // By state, at the count that the tick has brought.
+    fn risen_way(&self, count: u64) -> TickWay
+        ensures value { result ≡ risen_way (end_value self.now).values self.now.role count self.now.state }
+        ensures room { SendsRoom self.now.state result }
+    {
+        let v = self.params.values();
+        match (self.state, self.role) {
+            (State::WaitAu2 { .. }, _) => limit(v.setup, count, TickWay::Abandons),
+            (State::WaitAr { .. }, _) => limit(
+                v.setup,
+                count,
+                TickWay::Releases(Reason::SetupTimeout),
+            ),
+            (State::WaitEc { .. }, Role::Initiator) | (State::WaitFirst { .. }, _) => limit(
+                v.wait,
+                count,
+                TickWay::Releases(Reason::FirstTimeout),
+            ),
+            (State::Up { sent, .. }, _) => self.up_way(count, sent),
+            _ => TickWay::Silent,
+        }
     }
-}
 
-impl End {
     // Which rule applies to a tick.
     pub(crate) fn tick_way(&self) -> TickWay
         ensures value { result ≡ tick_way (end_value self.now) }
@@ -84,29 +81,86 @@ impl End {
         if self.ec.0 == u32::MAX {
             return TickWay::UsedUp;
         }
-        let v = self.params.values();
-        tick_risen(&v, self.role, u64::from(self.count.0) + 1, self.state)
+        self.risen_way(u64::from(self.count.0) + 1)
     }
 }
 
-// Whether a telegram of this EC is neither too old nor too new.
-fn is_timely(v: &Values, count: u32, synced: ExecutionCycle, ec: ExecutionCycle) -> bool
-    ensures { result ≡ timely v.now (age count synced ec) }
-{
-    let age = i64::from(synced.0) + i64::from(count) - i64::from(ec.0);
-    v.mmin <= age && age <= i64::from(v.mmax)
+// What a telegram of the data exchange is held against.
+#[derive(Clone, Copy)]
+struct Expectation {
+    values: Values,
+    // the number of the last one accepted
+    last: SequenceNumber,
+    // the EC that the expectation was last set to, and the ticks since
+    synced: ExecutionCycle,
+    count: Ticks,
+    // whether AM+ACK is awaited
+    due: bool,
 }
 
-// The number of a telegram: old ones are dropped, those beyond the window release.
-fn by_number(v: &Values, last: SequenceNumber, sn: SequenceNumber, way: FetchWay) -> FetchWay
-    ensures { result ≡ numbered v.now last sn.0 way }
+impl Expectation {
+    // Whether a telegram of this EC is neither too old nor too new.
+    fn is_timely(&self, ec: ExecutionCycle) -> bool
+        ensures { result ≡ timely self.now.values (age self.now.count.0 self.now.synced ec) }
+    {
+        let age = i64::from(self.synced.0) + i64::from(self.count.0) - i64::from(ec.0);
+        self.values.mmin <= age && age <= i64::from(self.values.mmax)
+    }
+
+    // The number of a telegram: old ones are dropped, those beyond the window release.
+    // No closure or `Result` for the way of a good one: it is a small value, made without effect.
+    fn by_number(&self, sn: SequenceNumber, way: FetchWay) -> FetchWay
+        ensures { result ≡ numbered self.now.values self.now.last sn.0 way }
+    {
+        if sn <= self.last {
+            FetchWay::Drops
+        } else if u64::from(self.last.0) + u64::from(self.values.window) < u64::from(sn.0) {
+            FetchWay::Releases(Reason::BeyondWindow)
+        } else {
+            way
+        }
+    }
+
+    // A telegram of the data exchange: its number comes first, then its age.
+    fn in_order(&self, telegram: Telegram<'_>, way: FetchWay) -> FetchWay
+        ensures { result ≡ numbered self.now.values self.now.last (telegram_value telegram.entry).sn (aged self.now.values self.now.count.0 self.now.synced (telegram_value telegram.entry) way) }
+    {
+        if self.is_timely(telegram.ec) {
+            self.by_number(telegram.sn, way)
+        } else {
+            self.by_number(telegram.sn, FetchWay::Releases(Reason::WrongAge))
+        }
+    }
+
+    // In waitfirst and up. AM+ACK has a place only where it is awaited.
+    fn by_telegram(&self, telegram: Telegram<'_>) -> FetchWay
+        ensures { result ≡ exchange_way self.now.values self.now.count.0 self.now.due self.now.last self.now.synced (telegram_value telegram.entry) (content_value telegram.entry.content) }
+    {
+        let wrong = FetchWay::Releases(Reason::Malformed);
+        match telegram.content {
+            Content::EcStart { .. } => self.by_number(telegram.sn, wrong),
+            Content::Am(_) => self.in_order(telegram, takes(Exchange::Am, telegram)),
+            Content::AmReq(_) => self.in_order(telegram, takes(Exchange::Req, telegram)),
+            Content::AmAck(_) if self.due => self.in_order(
+                telegram,
+                takes(Exchange::Ack, telegram),
+            ),
+            Content::AmAck(_) => self.in_order(telegram, wrong),
+            Content::Other { type_byte, .. } => by_stray(
+                type_byte,
+                self.by_number(telegram.sn, wrong),
+            ),
+        }
+    }
+}
+
+fn takes(kind: Exchange, telegram: Telegram<'_>) -> FetchWay
+    ensures { result ≡ taken kind (telegram_value telegram.entry) }
 {
-    if sn.0 <= last.0 {
-        FetchWay::Drops
-    } else if u64::from(last.0) + u64::from(v.window) < u64::from(sn.0) {
-        FetchWay::Releases(Reason::BeyondWindow)
-    } else {
-        way
+    FetchWay::Takes {
+        kind,
+        sn: telegram.sn,
+        ec: telegram.ec,
     }
 }
 
@@ -121,202 +175,11 @@ fn by_stray(type_byte: u8, start: FetchWay) -> FetchWay
     }
 }
 
-// A telegram of the data exchange whose number is good, if it is timely.
-fn by_age(
-    v: &Values,
-    count: u32,
-    synced: ExecutionCycle,
-    kind: Exchange,
-    telegram: Telegram<'_>,
-) -> FetchWay
-    ensures { result ≡ aged v.now count synced (telegram_value telegram.entry) (taken kind (telegram_value telegram.entry)) }
-{
-    if !is_timely(v, count, synced, telegram.ec) {
-        return FetchWay::Releases(Reason::WrongAge);
-    }
-    FetchWay::Takes {
-        kind,
-        sn: telegram.sn,
-        ec: telegram.ec,
-    }
-}
-
-// AM+ACK has a place only where it is awaited; its age is judged first.
-fn by_ack(
-    v: &Values,
-    count: u32,
-    due: bool,
-    synced: ExecutionCycle,
-    telegram: Telegram<'_>,
-) -> FetchWay
-    ensures { result ≡ aged v.now count synced (telegram_value telegram.entry) (awaited due (telegram_value telegram.entry)) }
-{
-    if !is_timely(v, count, synced, telegram.ec) {
-        FetchWay::Releases(Reason::WrongAge)
-    } else if due {
-        by_age(v, count, synced, Exchange::Ack, telegram)
-    } else {
-        FetchWay::Releases(Reason::Malformed)
-    }
-}
-
-// In waitfirst and up.
-fn exchange(
-    v: &Values,
-    count: u32,
-    due: bool,
-    last: SequenceNumber,
-    synced: ExecutionCycle,
-    telegram: Telegram<'_>,
-) -> FetchWay
-    ensures { result ≡ exchange_way v.now count due last synced (telegram_value telegram.entry) (content_value telegram.entry.content) }
-{
-    match telegram.content {
-        Content::EcStart { .. } => by_number(
-            v,
-            last,
-            telegram.sn,
-            FetchWay::Releases(Reason::Malformed),
-        ),
-        Content::Am(_) => by_number(
-            v,
-            last,
-            telegram.sn,
-            by_age(v, count, synced, Exchange::Am, telegram),
-        ),
-        Content::AmReq(_) => by_number(
-            v,
-            last,
-            telegram.sn,
-            by_age(v, count, synced, Exchange::Req, telegram),
-        ),
-        Content::AmAck(_) => by_number(
-            v,
-            last,
-            telegram.sn,
-            by_ack(v, count, due, synced, telegram),
-        ),
-        Content::Other { type_byte, .. } => by_stray(
-            type_byte,
-            by_number(v, last, telegram.sn, FetchWay::Releases(Reason::Malformed)),
-        ),
-    }
-}
-
-// In waitec: version, then period.
-fn starting(v: &Values, telegram: Telegram<'_>) -> FetchWay
-    ensures { result ≡ start_way v.now (telegram_value telegram.entry) (content_value telegram.entry.content) }
-{
-    match telegram.content {
-        Content::EcStart { version, period } => {
-            if version != v.version {
-                FetchWay::Releases(Reason::WrongVersion)
-            } else if period != v.period.0 {
-                FetchWay::Releases(Reason::WrongPeriod)
-            } else {
-                FetchWay::Starts {
-                    sn: telegram.sn,
-                    ec: telegram.ec,
-                }
-            }
-        }
-        Content::Other { type_byte, .. } => by_stray(
-            type_byte,
-            FetchWay::Releases(Reason::Malformed),
-        ),
-        _ => FetchWay::Releases(Reason::Malformed),
-    }
-}
-
-// A telegram under the connection's word, by state.
-fn by_telegram(v: &Values, count: u32, state: State, telegram: Telegram<'_>) -> FetchWay
-    ensures { result ≡ telegram_way v.now count state (telegram_value telegram.entry) }
-{
-    match state {
-        State::WaitEc { .. } => starting(v, telegram),
-        State::WaitFirst { last, synced, .. } => exchange(v, count, false, last, synced, telegram),
-        State::Up { last, synced, .. } => exchange(
-            v,
-            count,
-            v.ask.0 <= count,
-            last,
-            synced,
-            telegram,
-        ),
-        _ => FetchWay::Drops,
-    }
-}
-
 // Whether a string is a data frame whose code is right under the word.
 fn is_under(word: SafetyWord, s: &[u8]) -> bool
     ensures { result ≡ same_word word (word_in (read_frame s.now)) }
 {
-    match bears(s) {
-        Some(borne) => borne.0 == word.0,
-        None => false,
-    }
-}
-
-// A data frame: dropped unless its code is right under the word.
-fn by_data(
-    v: &Values,
-    count: u32,
-    state: State,
-    word: SafetyWord,
-    s: &[u8],
-    telegram: &[u8],
-) -> FetchWay
-    ensures { result ≡ data_way v.now count state word s.now telegram.now }
-{
-    if !is_under(word, s) {
-        return FetchWay::Drops;
-    }
-    match Telegram::read(telegram) {
-        Ok(telegram) => by_telegram(v, count, state, telegram),
-        Err(_) => FetchWay::Drops,
-    }
-}
-
-// The table of state and arriving frame: in the opening the one frame awaited, then data frames, and a release by the far end at any time.
-fn by_frame(v: &Values, count: u32, state: State, s: &[u8], frame: Frame<'_>) -> FetchWay
-    ensures { result ≡ frame_way v.now count state s.now (frame_value frame.entry) }
-{
-    match (state, frame) {
-        (State::Out(_), _) => FetchWay::Drops,
-        (_, Frame::BareDi) => FetchWay::LeftByFar(ReasonCodes {
-            reason: 127,
-            sub_reason: 0,
-        }),
-        (_, Frame::Di { codes, .. }) => FetchWay::LeftByFar(codes),
-        (State::Listen { .. }, Frame::Au1 { rb }) => FetchWay::AnswersAu1 { rb },
-        (State::Listen { .. }, _) => FetchWay::Drops,
-        (State::WaitAu2 { rb, .. }, Frame::Au2 { ra_xor_rb }) => FetchWay::AnswersAu2 {
-            ra: ra_xor_rb ^ rb,
-        },
-        (State::WaitAu2 { .. }, _) => FetchWay::Releases(Reason::NotAu2),
-        (State::WaitAu3 { ra, .. }, Frame::Au3 { ra_xor_rc }) => FetchWay::AnswersAu3 {
-            rc: ra_xor_rc ^ ra,
-        },
-        (State::WaitAu3 { .. }, _) => FetchWay::Releases(Reason::NotAu3),
-        (State::WaitAr { rb, .. }, Frame::Ar { rb: echoed }) => {
-            if echoed == rb {
-                FetchWay::AnswersAr
-            } else {
-                FetchWay::Releases(Reason::WrongSession)
-            }
-        }
-        (State::WaitAr { .. }, _) => FetchWay::Releases(Reason::NotAr),
-        (State::WaitEc { words }, Frame::Dt { telegram, .. }) => by_data(
-            v, count, state, words.read, s, telegram,
-        ),
-        (State::WaitFirst { words, .. }, Frame::Dt { telegram, .. }) => by_data(
-            v, count, state, words.read, s, telegram,
-        ),
-        (State::Up { words, .. }, Frame::Dt { telegram, .. }) => by_data(
-            v, count, state, words.read, s, telegram,
-        ),
-        _ => FetchWay::Releases(Reason::UnexpectedFrame),
-    }
+    bears(s) == Some(word)
 }
 
 // Whether a string is judged at all: in listen all but the type AU1 is dropped unread.
@@ -331,6 +194,98 @@ fn is_heard(state: State, s: &[u8]) -> bool
 }
 
 impl End {
+    // In waitec: version, then period.
+    fn starting(&self, telegram: Telegram<'_>) -> FetchWay
+        ensures { result ≡ start_way (end_value self.now).values (telegram_value telegram.entry) (content_value telegram.entry.content) }
+    {
+        let v = self.params.values();
+        match telegram.content {
+            Content::EcStart { version, .. } if version != v.version => FetchWay::Releases(
+                Reason::WrongVersion,
+            ),
+            Content::EcStart { period, .. } if period != v.period.0 => FetchWay::Releases(
+                Reason::WrongPeriod,
+            ),
+            Content::EcStart { .. } => FetchWay::Starts {
+                sn: telegram.sn,
+                ec: telegram.ec,
+            },
+            Content::Other { type_byte, .. } => by_stray(
+                type_byte,
+                FetchWay::Releases(Reason::Malformed),
+            ),
+            _ => FetchWay::Releases(Reason::Malformed),
+        }
+    }
+
+    // A telegram under the connection's word, by state.
+    fn by_telegram(&self, telegram: Telegram<'_>) -> FetchWay
+        ensures { result ≡ telegram_way (end_value self.now).values self.now.count.0 self.now.state (telegram_value telegram.entry) }
+    {
+        let values = self.params.values();
+        let count = self.count;
+        let (last, synced, due) = match self.state {
+            State::WaitEc { .. } => return self.starting(telegram),
+            State::WaitFirst { last, synced, .. } => (last, synced, false),
+            State::Up { last, synced, .. } => (last, synced, values.ask <= count),
+            _ => return FetchWay::Drops,
+        };
+        let expectation = Expectation {
+            values,
+            last,
+            synced,
+            count,
+            due,
+        };
+        expectation.by_telegram(telegram)
+    }
+
+    // A data frame: dropped unless its code is right under the word.
+    fn by_data(&self, word: SafetyWord, s: &[u8], telegram: &[u8]) -> FetchWay
+        ensures { result ≡ data_way (end_value self.now).values self.now.count.0 self.now.state word s.now telegram.now }
+    {
+        if !is_under(word, s) {
+            return FetchWay::Drops;
+        }
+        match Telegram::read(telegram) {
+            Ok(telegram) => self.by_telegram(telegram),
+            Err(_) => FetchWay::Drops,
+        }
+    }
+
+    // The table of state and arriving frame: in the opening the one frame awaited, then data frames, and a release by the far end at any time.
+    fn by_frame(&self, s: &[u8], frame: Frame<'_>) -> FetchWay
+        ensures { result ≡ frame_way (end_value self.now).values self.now.count.0 self.now.state s.now (frame_value frame.entry) }
+    {
+        match (self.state, frame) {
+            (State::Out(_), _) => FetchWay::Drops,
+            (_, Frame::BareDi) => FetchWay::LeftByFar(ReasonCodes {
+                reason: 127,
+                sub_reason: 0,
+            }),
+            (_, Frame::Di { codes, .. }) => FetchWay::LeftByFar(codes),
+            (State::Listen { .. }, Frame::Au1 { rb }) => FetchWay::AnswersAu1 { rb },
+            (State::Listen { .. }, _) => FetchWay::Drops,
+            (State::WaitAu2 { rb, .. }, Frame::Au2 { ra_xor_rb }) => FetchWay::AnswersAu2 {
+                ra: ra_xor_rb ^ rb,
+            },
+            (State::WaitAu2 { .. }, _) => FetchWay::Releases(Reason::NotAu2),
+            (State::WaitAu3 { ra, .. }, Frame::Au3 { ra_xor_rc }) => FetchWay::AnswersAu3 {
+                rc: ra_xor_rc ^ ra,
+            },
+            (State::WaitAu3 { .. }, _) => FetchWay::Releases(Reason::NotAu3),
+            (State::WaitAr { rb, .. }, Frame::Ar { rb: echoed }) if echoed == rb =>
+                FetchWay::AnswersAr,
+            (State::WaitAr { .. }, Frame::Ar { .. }) => FetchWay::Releases(Reason::WrongSession),
+            (State::WaitAr { .. }, _) => FetchWay::Releases(Reason::NotAr),
+            (
+                State::WaitEc { words } | State::WaitFirst { words, .. } | State::Up { words, .. },
+                Frame::Dt { telegram, .. },
+            ) => self.by_data(words.read, s, telegram),
+            _ => FetchWay::Releases(Reason::UnexpectedFrame),
+        }
+    }
+
     // Which rule applies to a string that was fetched.
     pub(crate) fn fetch_way(&self, s: &[u8]) -> FetchWay
         ensures { result ≡ fetch_way (end_value self.now) s.now }
@@ -338,9 +293,9 @@ impl End {
         if !is_heard(self.state, s) {
             return FetchWay::Drops;
         }
-        let v = self.params.values();
-        match judge(self.role, usize::from(v.longest), s) {
-            Ok(frame) => by_frame(&v, self.count.0, self.state, s, frame),
+        let longest = usize::from(self.params.values().longest);
+        match judge(self.role, longest, s) {
+            Ok(frame) => self.by_frame(s, frame),
             Err(reason) => FetchWay::Releases(reason),
         }
     }
