@@ -1,8 +1,8 @@
 -- What comes out of a pair is the frame of a packet that one of its carriers held.
-use Rattle.std.proofs.Common.{◌≡◌, ℕ, ◌≤◌, Bool, true, false, cond, leb, List, [], ◌∷◌, ◌++◌, length, take, drop, replicate, Some, None, Ok, Err, Option, Result, sym, refl, ap, ◌∙◌, subst, arith, leb-true}
+use Rattle.std.proofs.Common.{◌≡◌, ℕ, ◌≤◌, Bool, true, false, cond, leb, List, [], ◌∷◌, ◌++◌, length, take, drop, replicate, Some, None, Ok, Err, Option, Result, sym, refl, ap, ◌∙◌, subst, append_assoc, arith, leb-true, length-append, length-drop}
 use mathlib.Core.List.Memᴰ
 use mathlib.Core.List.{Memᴰ}
-use Rattle.std.proofs.lemmas.List.{take_at, drop_at}
+use Rattle.std.proofs.lemmas.List.{take_at, drop_at, length-take-le, take-append-drop, drop-append-le}
 use Rattle.std.specs.Option.{option_map}
 use Rattle.terms.specs.declared.refusal.Refusal.{Refusal}
 use Rattle.terms.specs.declared.role.Role.{Role}
@@ -13,7 +13,7 @@ use Rattle.carrier.proofs.Sides.{no_gain_same}
 use Rattle.pair.specs.declared.Taken.{Taken}
 use Rattle.pair.specs.Counts.{is_newer}
 use Rattle.pair.specs.Frames.{pair_largest, pair_meaning, frame_within, given_by, gives, taken_of, written, got}
-use Rattle.pair.specs.Pairs.{Asked, Otherwise, AskedBoth}
+use Rattle.pair.specs.Pairs.{Asked, Otherwise, AskedBoth, AskedInTurn}
 use Rattle.pair.proofs.Merged.{frame_of, mem_frames, pair_no_gains}
 
 pub record FrameOut (most : ℕ) (ps : Strings) (buf buf' : List ℕ) (len : ℕ) : Type 0 where
@@ -134,6 +134,63 @@ module _ (same : Type 0) (ask ask' also also' : List ℕ → Result (Option ℕ)
   both_as : (buf buf' : List ℕ) (t : Option Taken) → AskedBoth same ask also most last buf buf' t → AskedBoth same ask' also' most last buf buf' t
   both_as buf buf' t h = record { mid = h.mid; first = h.first; normal = asked_as buf h.mid h.first h.normal; redundant = otherwise_as h.mid buf' t h.first h.redundant }
 
+-- what is written to the start of a buffer leaves what lies behind it
+written_more : (xs rest : List ℕ) (o : Option PacketValue) → ((q : PacketValue) → o ≡ Some q → length q.frame ≤ length xs) → written xs o ++ rest ≡ written (xs ++ rest) o
+written_more xs rest None h = refl
+written_more xs rest (Some q) h = append_assoc q.frame (drop (length q.frame) xs) rest ∙ ap (λ x. q.frame ++ x) (sym (drop-append-le (length q.frame) xs rest (h q refl)))
+
+length_written : (xs : List ℕ) (o : Option PacketValue) → length xs ≤ length (written xs o)
+length_written xs None = omega arith
+length_written xs (Some q) = simp (length-append, length-drop) (omega arith)
+
+got_within : (most : ℕ) (last : Option TransportNumber) (memory : List ℕ) (a : Result (Option ℕ) Refusal) (q : PacketValue) → got most last memory a ≡ Some q → length q.frame ≤ most
+got_within most last memory (Err e) q h = let z : ◌≡◌ {A = ℕ} 0 1 = cc in absurd (omega arith)
+got_within most last memory (Ok None) q h = let z : ◌≡◌ {A = ℕ} 0 1 = cc in absurd (omega arith)
+got_within most last memory (Ok (Some n)) q h = (gives_out most last q (read_packet (take n memory)) h).1
+
+module _ (most : ℕ) (last : Option TransportNumber) (rest : List ℕ) where
+  asked_more : (ask : List ℕ → Result (Option ℕ) Refusal → List ℕ → Type 0) (xs out : List ℕ) (t : Option Taken) → most ≤ length xs → Asked ask most last xs out t → Asked ask most last (xs ++ rest) (out ++ rest) t
+  asked_more ask xs out t le h = record {
+    answer = h.answer;
+    memory = h.memory;
+    asked = h.asked;
+    value = h.value;
+    buffer =
+        ap (λ x. x ++ rest) h.buffer
+        ∙ written_more xs rest (got most last h.memory h.answer) (λ q e. let w = got_within most last h.memory h.answer q e in omega arith);
+  }
+
+  module _ (same : Type 0) (ask also : List ℕ → Result (Option ℕ) Refusal → List ℕ → Type 0) where
+    otherwise_more : (mid out : List ℕ) (t first : Option Taken) → most ≤ length mid → Otherwise same also most last mid out t first → Otherwise same also most last (mid ++ rest) (out ++ rest) t first
+    otherwise_more mid out t (Some x) le k = (k.0, ap (λ z. z ++ rest) k.1, k.2)
+    otherwise_more mid out t None le h = asked_more also mid out t le h
+
+    both_more : (xs out : List ℕ) (t : Option Taken) → most ≤ length xs → AskedBoth same ask also most last xs out t → AskedBoth same ask also most last (xs ++ rest) (out ++ rest) t
+    both_more xs out t le h =
+        let long : most ≤ length h.mid = omega (arith, ap length h.normal.buffer, length_written xs (got most last h.normal.memory h.normal.answer)) in
+        record { mid = h.mid ++ rest; first = h.first; normal = asked_more ask xs h.mid h.first le h.normal; redundant = otherwise_more h.mid out t h.first long h.redundant }
+
+-- where nothing was given the buffer is as it was
+nothing_written : (xs : List ℕ) (o : Option PacketValue) → taken_of o ≡ None → written xs o ≡ xs
+nothing_written xs None e = refl
+nothing_written xs (Some q) e = let z : ◌≡◌ {A = ℕ} 0 1 = cc in absurd (omega arith)
+
+-- both are asked into the first bytes of a buffer, as many as a frame may have
+module _ (same : Type 0) (ask also : List ℕ → Result (Option ℕ) Refusal → List ℕ → Type 0) (last : Option TransportNumber) (out : List ℕ) (t : Option Taken) where
+  both_by_turns : (xs mid : List ℕ) (first : Option Taken) → Asked ask (length xs) last xs mid first → Otherwise same also (length mid) last mid out t first → AskedBoth same ask also (length xs) last xs out t
+  both_by_turns xs mid (Some x) h k = record { mid = mid; first = Some x; normal = h; redundant = k }
+  both_by_turns xs mid None h k =
+      let e : mid ≡ xs = h.buffer ∙ nothing_written xs (got (length xs) last h.memory h.answer) (sym h.value) in
+      record { mid = mid; first = None; normal = h; redundant = subst (λ (x : List ℕ). Asked also (length x) last mid out t) e k }
+
+  both_over : (most : ℕ) (buf : List ℕ) → most ≤ length buf → AskedInTurn same ask also last (take most buf) out t → AskedBoth same ask also most last buf (out ++ drop most buf) t
+  both_over most buf le h =
+      let n : length (take most buf) ≡ most = length-take-le most buf le in
+      let k : AskedBoth same ask also most last (take most buf) out t =
+      subst (λ (x : ℕ). AskedBoth same ask also x last (take most buf) out t) n (both_by_turns (take most buf) h.mid h.first h.normal h.redundant) in
+      subst (λ (x : List ℕ). AskedBoth same ask also most last x (out ++ drop most buf) t) (take-append-drop most buf)
+      (both_more most last (drop most buf) same ask also (take most buf) out t (omega arith) k)
+
 -- a fetch on a pair keeps the rules, and does what its carriers do
 module _ (n n' r r' : Meaning) (at : Role) (same : Type 0) (unasked : same → r' ≡ r) (does_n does_r : List ℕ → Result (Option ℕ) Refusal → List ℕ → Type 0) where
   abbrev pub ask_n : List ℕ → Result (Option ℕ) Refusal → List ℕ → Type 0
@@ -142,13 +199,14 @@ module _ (n n' r r' : Meaning) (at : Role) (same : Type 0) (unasked : same → r
   abbrev pub ask_r : List ℕ → Result (Option ℕ) Refusal → List ℕ → Type 0
   ask_r b a b' = FetchRules r r' at b b' a × does_r b a b'
 
-  pub fetched : (most : ℕ) (last last' : Option TransportNumber) (buf buf' : List ℕ) (t : Option Taken) → most ≡ pair_largest n.largest r.largest → last ≡ last'
-      → pair_largest n.largest r.largest ≤ length buf → AskedBoth same ask_n ask_r most last buf buf' t
-      → FetchRules (pair_meaning n r) (pair_meaning n' r') at buf buf' (Ok (option_map (λ x. x.len) t)) × AskedBoth same does_n does_r (pair_largest n.largest r.largest) last' buf buf' t
-  fetched most last last' buf buf' t em el room h₀ =
+  pub fetched : (most : ℕ) (last : Option TransportNumber) (buf out : List ℕ) (t : Option Taken) → most ≡ pair_largest n.largest r.largest → most ≤ length buf
+      → AskedInTurn same ask_n ask_r last (take most buf) out t
+      → FetchRules (pair_meaning n r) (pair_meaning n' r') at buf (out ++ drop most buf) (Ok (option_map (λ x. x.len) t))
+      × AskedBoth same does_n does_r (pair_largest n.largest r.largest) last buf (out ++ drop most buf) t
+  fetched most last buf out t em room h₀ =
+      let buf' : List ℕ = out ++ drop most buf in
       let m : ℕ = pair_largest n.largest r.largest in
-      let h : AskedBoth same ask_n ask_r m last' buf buf' t =
-      subst (λ (x : Option TransportNumber). AskedBoth same ask_n ask_r m x buf buf' t) el (subst (λ (x : ℕ). AskedBoth same ask_n ask_r x last buf buf' t) em h₀) in (
-        pair_fetch n n' r r' at buf buf' room t (both_sound n n' r r' at same unasked ask_n ask_r (λ b a b' x. x.0) (λ b a b' x. x.0) m last' buf buf' t h),
-        both_as same ask_n does_n ask_r does_r (λ b a b' x. x.1) (λ b a b' x. x.1) m last' buf buf' t h,
+      let h : AskedBoth same ask_n ask_r m last buf buf' t = subst (λ (x : ℕ). AskedBoth same ask_n ask_r x last buf buf' t) em (both_over same ask_n ask_r last out t most buf room h₀) in (
+        pair_fetch n n' r r' at buf buf' (subst (λ (x : ℕ). x ≤ length buf) em room) t (both_sound n n' r r' at same unasked ask_n ask_r (λ b a b' x. x.0) (λ b a b' x. x.0) m last buf buf' t h),
+        both_as same ask_n does_n ask_r does_r (λ b a b' x. x.1) (λ b a b' x. x.1) m last buf buf' t h,
       )

@@ -1,29 +1,38 @@
 -- The transport numbers of the two sides.
 use Rattle.std.specs.Prelude.{ℕ, ◌+◌, ◌-◌, ◌%◌, Bool, true, false, cond, Some, None, Option, nat_le}
 use Rattle.terms.specs.declared.role.Role.{Role}
-use Rattle.terms.specs.declared.role.Role.TheVariants.{Initiator, Responder}
+use Rattle.terms.specs.declared.sides.Sides.{Sides}
+use Rattle.terms.specs.Sides.{at, with_side}
 use Rattle.packets.specs.declared.packet.TransportNumber.{TransportNumber}
-use Rattle.pair.specs.declared.counters.Counters.{Counters}
+use Rattle.pair.specs.declared.counters.Numbers.{Numbers}
+
+-- the numbers of both sides
+abbrev pub Counters : Type 0
+Counters = Sides Numbers
 
 -- the number of the next packet from a side
 abbrev pub next_number : Counters → Role → ℕ
-next_number c Initiator = c.initiator.next.0
-next_number c Responder = c.responder.next.0
+next_number c side = (at c side).next.0
 
 -- the number of the last packet that was handed out at a side, if any was
 abbrev pub last_number : Counters → Role → Option TransportNumber
-last_number c Initiator = c.initiator.last
-last_number c Responder = c.responder.last
+last_number c side = (at c side).last
 
--- after one more packet from a side: after 65,535 comes 0
+-- a side's numbers after one more packet from it: after 65,535 comes 0
+abbrev pub one_more : Numbers → Numbers
+one_more n = record n { next = record { 0 = (n.next.0 + 1) % 65536 } }
+
+-- the numbers after one more packet from a side
 abbrev pub advanced : Counters → Role → Counters
-advanced c Initiator = record { initiator = record { next = record { 0 = (c.initiator.next.0 + 1) % 65536 }; last = c.initiator.last }; responder = c.responder }
-advanced c Responder = record { initiator = c.initiator; responder = record { next = record { 0 = (c.responder.next.0 + 1) % 65536 }; last = c.responder.last } }
+advanced c side = with_side c side (one_more (at c side))
 
--- after a packet of a number was handed out at a side
+-- a side's numbers after a packet of a number was handed out there
+abbrev pub handed_out : Numbers → TransportNumber → Numbers
+handed_out n number = record n { last = Some number }
+
+-- the numbers after a packet of a number was handed out at a side
 abbrev pub noted : Counters → Role → TransportNumber → Counters
-noted c Initiator n = record { initiator = record { next = c.initiator.next; last = Some n }; responder = c.responder }
-noted c Responder n = record { initiator = c.initiator; responder = record { next = c.responder.next; last = Some n } }
+noted c side number = with_side c side (handed_out (at c side) number)
 
 -- how far a number is ahead of another, modulo 65,536
 abbrev pub ahead_of : ℕ → ℕ → ℕ

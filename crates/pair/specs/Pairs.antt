@@ -11,8 +11,7 @@ use Rattle.carrier.specs.declared.Keeping.{Keeping}
 use Rattle.carrier.specs.declared.Keeping.TheVariants.{Kept, NotKept}
 use Rattle.carrier.specs.Rules.{greatest_length}
 use Rattle.pair.specs.declared.Taken.{Taken}
-use Rattle.pair.specs.declared.counters.Counters.{Counters}
-use Rattle.pair.specs.Counts.{next_number, last_number, advanced, noted}
+use Rattle.pair.specs.Counts.{Counters, next_number, last_number, advanced, noted}
 use Rattle.pair.specs.Frames.{taken_of, written, got}
 
 -- a frame with the next number of a side
@@ -74,6 +73,13 @@ pub record AskedBoth (same : Type 0) (ask-normal ask-redundant : List ℕ → Re
   pub first : Option Taken
   pub normal : Asked ask-normal most last buf mid first
   pub redundant : Otherwise same ask-redundant most last mid buf' t first
+
+-- the same, into all of a buffer
+pub record AskedInTurn (same : Type 0) (ask-normal ask-redundant : List ℕ → Result (Option ℕ) Refusal → List ℕ → Type 0) (last : Option TransportNumber) (buf buf' : List ℕ) (t : Option Taken) : Type 0 where
+  pub mid : List ℕ
+  pub first : Option Taken
+  pub normal : Asked ask-normal (length buf) last buf mid first
+  pub redundant : Otherwise same ask-redundant (length mid) last mid buf' t first
 
 -- the counters after a packet went out, or none
 abbrev pub after_taken : Counters → Role → Option Taken → Counters

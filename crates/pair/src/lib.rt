@@ -3,20 +3,21 @@
 
 ghost use Rattle.std.specs.Prelude.{◌≡◌, ℕ, ◌+◌, ◌<◌, ◌≤◌, length, replicate, None};
 ghost use Rattle.terms.specs.declared.role.Role.{Role};
-ghost use Rattle.packets.specs.Packets.{packet_bytes};
+ghost use Rattle.packets.specs.Packets.{packet_bytes, packet_value};
 ghost use Rattle.carrier.specs.Rules.{PutRules, FetchRules, greatest_length};
-ghost use Rattle.pair.specs.Counts.{next_number, last_number};
+ghost use Rattle.pair.specs.Counts.{next_number, last_number, advanced};
 ghost use Rattle.pair.specs.Frames.{packet_overhead, pair_largest, pair_meaning, gives, taken_of, written};
-ghost use Rattle.pair.specs.Pairs.{kept_either, BothPut, PairPut, PairFetch, Asked, AskedBoth};
+ghost use Rattle.pair.specs.Pairs.{numbered, kept_either, BothPut, PairPut, PairFetch, Asked, AskedInTurn};
 ghost use Rattle.std.proofs.Common.{rules};
 
 mod counters;
 
 use carrier::{Carrier, GREATEST_LENGTH, Keeping};
-use counters::{Counters, is_newer};
+use counters::{Numbers, is_newer};
 use packets::packet::{Cable, Packet, TransportNumber};
 use terms::refusal::Refusal;
 use terms::role::Role;
+use terms::sides::Sides;
 
 // As many bytes as a packet adds to a frame at most.
 pub const PACKET_OVERHEAD: usize = 15;
@@ -28,23 +29,22 @@ struct Taken {
     len: usize,
 }
 
-// Puts the packet of a frame.
+// Puts a packet as it is written for a cable.
 fn put_packet<C: Carrier>(
     carrier: &mut C,
     from: Role,
-    number: TransportNumber,
+    packet: Packet<'_>,
     cable: Cable,
-    frame: &[u8],
 ) -> Result<Keeping, Refusal>
-    requires { length frame.now + packet_overhead ≤ greatest_length }
-    ensures rules { PutRules (C.meaning carrier.old) (C.meaning carrier.new) from (packet_bytes (record { number = number.0; frame = frame.now }) cable) result }
-    ensures exact { C.putting carrier.old from (packet_bytes (record { number = number.0; frame = frame.now }) cable) result carrier.new }
+    requires { length packet.frame.now + packet_overhead ≤ greatest_length }
+    ensures rules { PutRules (C.meaning carrier.old) (C.meaning carrier.new) from (packet_bytes (packet_value packet.entry) cable) result }
+    ensures exact { C.putting carrier.old from (packet_bytes (packet_value packet.entry) cable) result carrier.new }
 {
-    let mut packet = [0u8; GREATEST_LENGTH];
-    let Ok(n) = Packet { number, frame }.write(cable, &mut packet) else {
+    let mut bytes = [0u8; GREATEST_LENGTH];
+    let Ok(n) = packet.write(cable, &mut bytes) else {
         unreachable()
     };
-    carrier.put(from, &packet[0..n])
+    carrier.put(from, &bytes[..n])
 }
 
 // Kept by either carrier.
@@ -52,98 +52,39 @@ fn either(first: Result<Keeping, Refusal>, second: Result<Keeping, Refusal>) -> 
     ensures { result ≡ kept_either first second }
 {
     match (first, second) {
-        (Ok(Keeping::Kept), _) => Keeping::Kept,
-        (_, Ok(Keeping::Kept)) => Keeping::Kept,
+        (Ok(Keeping::Kept), _) | (_, Ok(Keeping::Kept)) => Keeping::Kept,
         _ => Keeping::NotKept,
     }
 }
 
-// Puts a frame on both carriers, in packets of one number.
-fn put_both<N: Carrier, R: Carrier>(
-    normal: &mut N,
-    redundant: &mut R,
-    from: Role,
-    number: TransportNumber,
-    frame: &[u8],
-) -> Keeping
-    requires { length frame.now + packet_overhead ≤ greatest_length }
-    ensures { BothPut (λ x a. PutRules (N.Carrier.meaning normal.old) (N.Carrier.meaning normal.new) from x a × N.Carrier.putting normal.old from x a normal.new) (λ x a. PutRules (R.Carrier.meaning redundant.old) (R.Carrier.meaning redundant.new) from x a × R.Carrier.putting redundant.old from x a redundant.new) (record { number = number.0; frame = frame.now }) result }
+// Writes the frame of a packet to the start of a buffer, if the packet is good and new and the frame is no longer than the buffer.
+fn take_frame(packet: &[u8], last: Option<TransportNumber>, buf: &mut [u8]) -> Option<Taken>
+    ensures value { result ≡ taken_of (gives (length buf.old) last packet.now) }
+    ensures buffer { buf.new ≡ written buf.old (gives (length buf.old) last packet.now) }
 {
-    let first = put_packet(normal, from, number, Cable::Normal, frame);
-    let second = put_packet(redundant, from, number, Cable::Redundant, frame);
-    either(first, second)
-}
-
-// Writes the frame of a packet to the start of a buffer, if the packet is good and new.
-fn take_frame(
-    packet: &[u8],
-    last: Option<TransportNumber>,
-    most: usize,
-    buf: &mut [u8],
-) -> Option<Taken>
-    requires { most ≤ length buf.old }
-    ensures value { result ≡ taken_of (gives most last packet.now) }
-    ensures buffer { buf.new ≡ written buf.old (gives most last packet.now) }
-{
-    let Ok(Packet { number, frame }) = Packet::read(packet) else {
-        return None;
-    };
+    let Packet { number, frame } = Packet::read(packet).ok()?;
     let len = frame.len();
-    if len > most {
+    if len > buf.len() || !is_newer(last, number) {
         return None;
     }
-    if !is_newer(last, number) {
-        return None;
-    }
-    buf[0..len].copy_from_slice(frame);
+    buf[..len].copy_from_slice(frame);
     Some(Taken { number, len })
 }
 
-// Asks a carrier for a packet, and writes its frame to the start of a buffer if the packet is good and new.
+// Asks a carrier for a packet, and takes its frame.
 fn fetch_frame<C: Carrier>(
     carrier: &mut C,
     at: Role,
     last: Option<TransportNumber>,
-    most: usize,
     buf: &mut [u8],
 ) -> Option<Taken>
-    requires { most ≤ length buf.old }
-    ensures { Asked (λ b a b'. FetchRules (C.meaning carrier.old) (C.meaning carrier.new) at b b' a × C.fetching carrier.old at b a b' carrier.new) most last buf.old buf.new result }
+    ensures { Asked (λ b a b'. FetchRules (C.meaning carrier.old) (C.meaning carrier.new) at b b' a × C.fetching carrier.old at b a b' carrier.new) (length buf.old) last buf.old buf.new result }
 {
     let mut memory = [0u8; GREATEST_LENGTH];
     match carrier.fetch(at, &mut memory) {
-        Ok(Some(n)) => take_frame(&memory[0..n], last, most, buf),
-        Ok(None) => None,
-        Err(_) => None,
+        Ok(Some(n)) => take_frame(&memory[..n], last, buf),
+        Ok(None) | Err(_) => None,
     }
-}
-
-// Asks the normal carrier and, if that gave no good new packet, the redundant one.
-fn fetch_either<N: Carrier, R: Carrier>(
-    normal: &mut N,
-    redundant: &mut R,
-    at: Role,
-    last: Option<TransportNumber>,
-    most: usize,
-    buf: &mut [u8],
-) -> Option<Taken>
-    requires { most ≤ length buf.old }
-    ensures { AskedBoth (redundant.new ≡ redundant.old) (λ b a b'. FetchRules (N.Carrier.meaning normal.old) (N.Carrier.meaning normal.new) at b b' a × N.Carrier.fetching normal.old at b a b' normal.new) (λ b a b'. FetchRules (R.Carrier.meaning redundant.old) (R.Carrier.meaning redundant.new) at b b' a × R.Carrier.fetching redundant.old at b a b' redundant.new) most last buf.old buf.new result }
-{
-    if let Some(taken) = fetch_frame(normal, at, last, most, buf) {
-        return Some(taken);
-    }
-    fetch_frame(redundant, at, last, most, buf)
-}
-
-// The smaller of two largest lengths, less what a packet adds to a frame.
-fn largest<N: Carrier, R: Carrier>(normal: &N, redundant: &R) -> usize
-    ensures { result ≡ pair_largest (N.Carrier.meaning normal.now).largest (R.Carrier.meaning redundant.now).largest }
-{
-    normal
-        .max_len()
-        .min(redundant.max_len())
-        .saturating_sub(PACKET_OVERHEAD)
 }
 
 // Two carriers that carry the same frames, so that one may fail.
@@ -151,7 +92,7 @@ fn largest<N: Carrier, R: Carrier>(normal: &N, redundant: &R) -> usize
 pub struct RedundantPair<N, R> {
     normal: N,
     redundant: R,
-    counters: Counters,
+    counters: Sides<Numbers>,
 }
 
 impl<N: Carrier, R: Carrier> RedundantPair<N, R> {
@@ -163,7 +104,50 @@ impl<N: Carrier, R: Carrier> RedundantPair<N, R> {
         RedundantPair {
             normal,
             redundant,
-            counters: Counters::new(),
+            counters: Sides {
+                initiator: Numbers::new(),
+                responder: Numbers::new(),
+            },
+        }
+    }
+
+    // The smaller of the two largest lengths, less what a packet adds to a frame.
+    fn largest(&self) -> usize
+        ensures { result ≡ pair_largest (N.Carrier.meaning self.now.normal).largest (R.Carrier.meaning self.now.redundant).largest }
+    {
+        self.normal
+            .max_len()
+            .min(self.redundant.max_len())
+            .saturating_sub(PACKET_OVERHEAD)
+    }
+
+    // Puts a frame on both carriers, in packets of the side's next number.
+    fn put_both(&mut self, from: Role, frame: &[u8]) -> Keeping
+        requires { length frame.now + packet_overhead ≤ greatest_length }
+        ensures both { BothPut (λ x a. PutRules (N.Carrier.meaning self.old.normal) (N.Carrier.meaning self.new.normal) from x a × N.Carrier.putting self.old.normal from x a self.new.normal) (λ x a. PutRules (R.Carrier.meaning self.old.redundant) (R.Carrier.meaning self.new.redundant) from x a × R.Carrier.putting self.old.redundant from x a self.new.redundant) (numbered self.old.counters from frame.now) result }
+        ensures counters { self.new.counters ≡ advanced self.old.counters from }
+        ensures counted { next_number self.old.counters from < 65536 }
+    {
+        let number = self.counters.at_mut(from).advance();
+        let packet = Packet { number, frame };
+        let first = put_packet(&mut self.normal, from, packet, Cable::Normal);
+        let second = put_packet(&mut self.redundant, from, packet, Cable::Redundant);
+        either(first, second)
+    }
+
+    // Takes a frame from the normal carrier or, if that gave no good new packet, from the redundant one.
+    fn fetch_either(
+        &mut self,
+        at: Role,
+        last: Option<TransportNumber>,
+        buf: &mut [u8],
+    ) -> Option<Taken>
+        ensures asked { AskedInTurn (self.new.redundant ≡ self.old.redundant) (λ b a b'. FetchRules (N.Carrier.meaning self.old.normal) (N.Carrier.meaning self.new.normal) at b b' a × N.Carrier.fetching self.old.normal at b a b' self.new.normal) (λ b a b'. FetchRules (R.Carrier.meaning self.old.redundant) (R.Carrier.meaning self.new.redundant) at b b' a × R.Carrier.fetching self.old.redundant at b a b' self.new.redundant) last buf.old buf.new result }
+        ensures counters { self.new.counters ≡ self.old.counters }
+    {
+        match fetch_frame(&mut self.normal, at, last, buf) {
+            None => fetch_frame(&mut self.redundant, at, last, buf),
+            taken @ Some(_) => taken,
         }
     }
 }
@@ -178,29 +162,26 @@ impl<N: Carrier, R: Carrier> Carrier for RedundantPair<N, R> {
     ghost limit = { Prim.search rules };
 
     fn max_len(&self) -> usize {
-        largest(&self.normal, &self.redundant)
+        self.largest()
     }
 
     fn put(&mut self, from: Role, s: &[u8]) -> Result<Keeping, Refusal> {
-        if s.len() > largest(&self.normal, &self.redundant) {
+        if s.len() > self.largest() {
             return Err(Refusal::StringTooLong);
         }
-        let number = self.counters.advance(from);
-        Ok(put_both(&mut self.normal, &mut self.redundant, from, number, s))
+        Ok(self.put_both(from, s))
     }
 
     fn fetch(&mut self, at: Role, buf: &mut [u8]) -> Result<Option<usize>, Refusal> {
-        let most = largest(&self.normal, &self.redundant);
+        let most = self.largest();
         if buf.len() < most {
             return Err(Refusal::BufferTooShort);
         }
-        let last = self.counters.last(at);
-        match fetch_either(&mut self.normal, &mut self.redundant, at, last, most, buf) {
-            None => Ok(None),
-            Some(taken) => {
-                self.counters.note(at, taken.number);
-                Ok(Some(taken.len))
-            }
-        }
+        let last = self.counters.at(at).last;
+        let Some(Taken { number, len }) = self.fetch_either(at, last, &mut buf[..most]) else {
+            return Ok(None);
+        };
+        self.counters.at_mut(at).note(number);
+        Ok(Some(len))
     }
 }
