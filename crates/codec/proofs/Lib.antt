@@ -1,3 +1,4 @@
+pub mod Framing
 pub mod Judging
 pub mod TelegramTrips
 pub mod Sealings

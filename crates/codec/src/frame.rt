@@ -1,8 +1,7 @@
 // Frames: reading a string as the one frame it is, and writing a frame.
-ghost use Rattle.std.specs.Prelude.{◌≡◌, ◌≤◌, true, false, length, take, drop, Ok, IfOk, MatchResult};
-ghost use Rattle.std.specs.Str.{bytes_eq};
+ghost use Rattle.std.specs.Prelude.{◌≡◌, ◌≤◌, length, Ok, IfOk};
 ghost use Rattle.terms.specs.declared.refusal.Refusal.TheVariants as refusal;
-ghost use Rattle.codec.specs.Frames.{frame_value, frame_values, sized, Parts, fixed_bytes, bytes_of, head_of, read_au1, read_au2, read_di, read_dt, read_body, read_typed, read_frame, write_answer, write_after};
+ghost use Rattle.codec.specs.Frames.{frame_value, frame_values, sized, Parts, bytes_of, head_of, read_au1, read_au2, read_di, read_dt, read_body, read_typed, read_frame, write_answer, write_after};
 ghost use Rattle.codec.specs.FrameTypes.{Suits};
 ghost use Rattle.codec.specs.FrameLaws.{Judged, WrittenAgain, ReadBack};
 
@@ -14,9 +13,6 @@ use terms::layout::Layout;
 use terms::lengths::LONGEST_MESSAGE;
 use terms::refusal::Refusal;
 use terms::role::Role;
-
-// The fixed bytes behind the first of an AU1 or an AU2.
-const FIXED: [u8; 4] = [0, 0, 0, 2];
 
 // A frame. The data case borrows telegram and safety code from the string that it was read from.
 #[derive(Clone, Copy)]
@@ -63,20 +59,15 @@ fn head(first: u8) -> Option<(FrameType, Role)>
     }
 }
 
-// What follows the fixed bytes.
-fn behind_fixed(body: &[u8]) -> Result<&[u8], Refusal>
-    ensures { MatchResult result (λ rest. (bytes_eq (take 4 body.now) fixed_bytes ≡ true) × (rest.now ≡ drop 4 body.now)) (λ e. (bytes_eq (take 4 body.now) fixed_bytes ≡ false) × (e ≡ refusal.FrameFixed)) }
-{
-    body.strip_prefix(&FIXED).ok_or(Refusal::FrameFixed)
-}
-
 fn au1_from(body: &[u8]) -> Result<Frame<'_>, Refusal>
     requires { length body.now ≡ 12 }
     ensures answer { frame_values result ≡ read_au1 body.now }
     ensures parts { IfOk result Parts }
 {
-    let rb = behind_fixed(body)?;
-    Ok(Frame::Au1 { rb: u64_from(rb) })
+    match body {
+        [0, 0, 0, 2, rb @ ..] => Ok(Frame::Au1 { rb: u64_from(rb) }),
+        _ => Err(Refusal::FrameFixed),
+    }
 }
 
 // The eight bytes between the fixed ones and the number are ignored.
@@ -85,10 +76,12 @@ fn au2_from(body: &[u8]) -> Result<Frame<'_>, Refusal>
     ensures answer { frame_values result ≡ read_au2 body.now }
     ensures parts { IfOk result Parts }
 {
-    let rest = behind_fixed(body)?;
-    Ok(Frame::Au2 {
-        ra_xor_rb: u64_from(&rest[8..]),
-    })
+    match body {
+        [0, 0, 0, 2, _, _, _, _, _, _, _, _, mix @ ..] => Ok(Frame::Au2 {
+            ra_xor_rb: u64_from(mix),
+        }),
+        _ => Err(Refusal::FrameFixed),
+    }
 }
 
 fn di_from(towards: Role, body: &[u8]) -> Result<Frame<'_>, Refusal>
