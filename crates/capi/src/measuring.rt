@@ -10,15 +10,13 @@ use ends::session::{SessionNumber, SessionNumbers};
 use params::params::Params;
 use params::sheet::Sheet;
 use params::values::{Milliseconds, Values};
+use rehearsal::rehearsing::WIRE;
 use std::alloc::{AllocError, Global};
 use terms::counters::{ExecutionCycle, Ticks};
 use terms::identifier::Identifier;
 use terms::lengths::{LONGEST_FRAME, LONGEST_MESSAGE};
 use terms::role::Role;
 use terms::sides::Sides;
-
-// The memory of the wire between two ends, for what waits for either.
-const WIRE: usize = 8192;
 
 // The initiator's set: the widest limits, so that a link that is served stays up, and identifiers that differ just enough.
 const VALUES: Values = Values {

@@ -15,7 +15,7 @@ use terms::failure::Failure;
 use texts::fault::FileFault;
 
 // The memory of the wire for what waits for either side, in bytes.
-const WIRE: usize = 8192;
+pub const WIRE: usize = 8192;
 
 // Why there is no listing: a faulty file, or want of memory.
 pub type RehearsalError = Failure<FileFault>;
