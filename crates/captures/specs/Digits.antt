@@ -2,8 +2,8 @@
 use Rattle.std.specs.Prelude.{◌≡◌, ℕ, ◌+◌, ◌-◌, ◌*◌, ◌^◌, Bool, cond, ◌&&◌, List, [], ◌∷◌, length, Ok, Err, vec_items, Result, Vec, ◌==◌, nat_le, slice_index}
 use Rattle.std.specs.declared.alloc.Global.{Global}
 use Rattle.terms.specs.Outcomes.{then}
-use Rattle.captures.specs.declared.hex.Undecoded.{Undecoded}
-use Rattle.captures.specs.declared.hex.Undecoded.TheVariants.{Wrong, NoMemory}
+use Rattle.terms.specs.declared.failure.Failure.{Failure}
+use Rattle.terms.specs.declared.failure.Failure.TheVariants.{Cause, NoMemory}
 use Rattle.captures.specs.declared.line.LineFault.{LineFault}
 use Rattle.captures.specs.declared.line.LineFault.TheVariants.{NotHex}
 
@@ -42,7 +42,7 @@ abbrev pub bytes_value : List ℕ → Result (List ℕ) LineFault
 bytes_value text = cond (length text == 1 && slice_index text 0 == 45) (Ok []) (pairs_value text)
 
 -- the answer to a text whose value is this: its bytes, or its fault, or that there was no memory for them
-abbrev pub Decoded : Result (List ℕ) LineFault → Result (Vec ℕ Global) Undecoded → Type 0
+abbrev pub Decoded : Result (List ℕ) LineFault → Result (Vec ℕ Global) (Failure LineFault) → Type 0
 Decoded value (Ok v) = value ≡ Ok (vec_items v)
-Decoded value (Err (Wrong fault)) = value ≡ Err fault
+Decoded value (Err (Cause fault)) = value ≡ Err fault
 Decoded value (Err NoMemory) = Unit {0}

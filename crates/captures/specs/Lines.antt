@@ -2,6 +2,7 @@
 use Rattle.std.specs.Prelude.{ℕ, ◌-◌, cond, ◌&&◌, List, length, take, drop, Ok, Err, codes, Result, ◌==◌, nat_le, nat_lt, slice_index}
 use Rattle.std.specs.Str.{bytes_eq}
 use Rattle.terms.specs.Outcomes.{then}
+use Rattle.terms.specs.declared.identifier.Identifier.{Identifier}
 use Rattle.captures.specs.declared.line.Line.{Line}
 use Rattle.captures.specs.declared.line.Line.TheVariants.{Note, Frame, Packet, Crc}
 use Rattle.captures.specs.declared.line.LineFault.{LineFault}
@@ -55,15 +56,17 @@ read_line line =
     (behind (codes "crc ") line read_crc
     (Err NoKind)))))
 
+-- sixteen digits are an identifier
+abbrev pub identifier_value : List ℕ → Result Identifier LineFault
+identifier_value text = then (word_value (take 8 text)) (λ first. then (word_value (drop 8 text)) (λ second. Ok record { first = first; second = second }))
+
 -- the first line: two identifiers of sixteen digits with a space between
 abbrev pub read_parties : List ℕ → Result Parties LineFault
 read_parties line =
     cond (length line == 33)
     (cond (slice_index line 16 == 32)
-    (then (word_value (take 8 line)) (λ a.
-    then (word_value (take 8 (drop 8 line))) (λ b.
-    then (word_value (take 8 (drop 17 line))) (λ c.
-    then (word_value (take 8 (drop 25 line))) (λ d.
-    Ok record { initiator = record { first = a; second = b }; responder = record { first = c; second = d } })))))
+    (then (identifier_value (take 16 line)) (λ initiator.
+    then (identifier_value (drop 17 line)) (λ responder.
+    Ok record { identifiers = record { initiator = initiator; responder = responder } })))
     (Err NoIdentifiers))
     (Err NoIdentifiers)

@@ -1,45 +1,21 @@
 // Hexadecimal text.
 ghost use Rattle.std.specs.Prelude.{◌≡◌, ◌<◌, IfOk};
-ghost use Rattle.captures.specs.declared.hex.Undecoded.TheVariants.{Wrong, NoMemory};
 ghost use Rattle.captures.specs.Digits.{digit_value, byte_value, word_value, pairs_value, bytes_value, Decoded};
 
 use super::line::LineFault;
-use std::alloc::{AllocFailed, Global};
+use std::alloc::Global;
+use terms::failure::Failure;
 
 // Why no bytes were made of a text.
-#[derive(Clone, Copy)]
-pub enum Undecoded {
-    Wrong(LineFault),
-    NoMemory,
-}
-
-impl From<LineFault> for Undecoded {
-    ghost from_gives = { λ fault r. r ≡ Wrong fault };
-
-    fn from(fault: LineFault) -> Undecoded {
-        Undecoded::Wrong(fault)
-    }
-}
-
-impl<T: Drop> From<AllocFailed<T>> for Undecoded {
-    ghost from_gives = { λ _ r. r ≡ NoMemory };
-
-    fn from(_refused: AllocFailed<T>) -> Undecoded {
-        Undecoded::NoMemory
-    }
-}
+pub type Undecoded = Failure<LineFault>;
 
 // A digit in either case.
 fn digit(b: u8) -> Result<u8, LineFault>
     ensures value { result ≡ digit_value b }
     ensures small { IfOk result (λ d. d < 16) }
 {
-    match b {
-        b'0'..=b'9' => Ok(b - b'0'),
-        b'A'..=b'F' => Ok(b - b'A' + 10),
-        b'a'..=b'f' => Ok(b - b'a' + 10),
-        _ => Err(LineFault::NotHex),
-    }
+    let value = char::from(b).to_digit(16).ok_or(LineFault::NotHex)?;
+    Ok(value as u8)
 }
 
 // Two digits are a byte, the first the higher.
@@ -70,12 +46,12 @@ fn pairs(heap: Global, text: &[u8]) -> Result<Vec<u8>, Undecoded>
     ensures { Decoded (pairs_value text.now) result }
 {
     let mut bytes = Vec::new(heap);
-    for i in 0..text.len() / 2 {
-        let b = byte(text[2 * i], text[2 * i + 1])?;
+    for pair in text.chunks_exact(2) {
+        let b = byte(pair[0], pair[1])?;
         bytes.push(b)?;
     }
     if text.len() % 2 != 0 {
-        return Err(Undecoded::Wrong(LineFault::NotHex));
+        return Err(Failure::Cause(LineFault::NotHex));
     }
     Ok(bytes)
 }
@@ -84,8 +60,8 @@ fn pairs(heap: Global, text: &[u8]) -> Result<Vec<u8>, Undecoded>
 pub fn decode(heap: Global, text: &[u8]) -> Result<Vec<u8>, Undecoded>
     ensures { Decoded (bytes_value text.now) result }
 {
-    if text.len() == 1 && text[0] == b'-' {
-        return Ok(Vec::new(heap));
+    match text {
+        [b'-'] => Ok(Vec::new(heap)),
+        _ => pairs(heap, text),
     }
-    pairs(heap, text)
 }

@@ -1,9 +1,9 @@
 // The lines of a capture.
-ghost use Rattle.std.specs.Prelude.{◌≡◌, true, false, length, take, drop, MatchOption};
-ghost use Rattle.std.specs.Str.{bytes_eq};
+ghost use Rattle.std.specs.Prelude.{◌≡◌};
 ghost use Rattle.captures.specs.Lines.{text_of, line_values, read_line, read_crc};
 
 use super::hex::word;
+use terms::failure::Cause;
 
 // What is wrong with a line.
 #[derive(Clone, Copy)]
@@ -15,6 +15,8 @@ pub enum LineFault {
     // a value is not hexadecimal digits, or not as many as it has to be
     NotHex,
 }
+
+impl Cause for LineFault {}
 
 // A line of a capture. Bytes are still the text that writes them.
 #[derive(Clone, Copy)]
@@ -35,18 +37,7 @@ pub enum Line<'a> {
 pub fn without_end(line: &[u8]) -> &[u8]
     ensures { result.now ≡ text_of line.now }
 {
-    let n = line.len();
-    if n > 0 && line[n - 1] == b'\n' {
-        return &line[0..n - 1];
-    }
-    line
-}
-
-// What follows the word at the start of the line.
-fn after<'a>(line: &'a [u8], word: &[u8]) -> Option<&'a [u8]>
-    ensures { MatchOption result (bytes_eq (take (length word.now) line.now) word.now ≡ false) (λ x. (bytes_eq (take (length word.now) line.now) word.now ≡ true) × (x.now ≡ drop (length word.now) line.now)) }
-{
-    line.strip_prefix(word)
+    line.strip_suffix(b"\n").unwrap_or(line)
 }
 
 // Two words of eight digits, each with a space behind it, and then the bytes.
@@ -56,13 +47,10 @@ fn crc_in(text: &[u8]) -> Result<Line<'_>, LineFault>
     if text.len() < 18 || text[8] != b' ' || text[17] != b' ' {
         return Err(LineFault::NotHex);
     }
-    let first = word(&text[0..8])?;
-    let second = word(&text[9..17])?;
-    let (_, bytes) = text.split_at(18);
     Ok(Line::Crc {
-        first,
-        second,
-        bytes,
+        first: word(&text[..8])?,
+        second: word(&text[9..17])?,
+        bytes: &text[18..],
     })
 }
 
@@ -74,13 +62,13 @@ impl<'a> Line<'a> {
         if let [] | [b'#', ..] = line {
             return Ok(Line::Note);
         }
-        if let Some(text) = after(line, b"frame ") {
+        if let Some(text) = line.strip_prefix(b"frame ") {
             return Ok(Line::Frame(text));
         }
-        if let Some(text) = after(line, b"packet ") {
+        if let Some(text) = line.strip_prefix(b"packet ") {
             return Ok(Line::Packet(text));
         }
-        if let Some(text) = after(line, b"crc ") {
+        if let Some(text) = line.strip_prefix(b"crc ") {
             return crc_in(text);
         }
         Err(LineFault::NoKind)

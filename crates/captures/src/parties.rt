@@ -1,15 +1,25 @@
 // The first line of a capture: who talks to whom.
-ghost use Rattle.std.specs.Prelude.{◌≡◌};
-ghost use Rattle.captures.specs.Lines.{read_parties};
+ghost use Rattle.std.specs.Prelude.{◌≡◌, length};
+ghost use Rattle.captures.specs.Lines.{identifier_value, read_parties};
 
 use super::hex::word;
 use super::line::LineFault;
 use terms::identifier::Identifier;
+use terms::sides::Sides;
 
 #[derive(Clone, Copy)]
 pub struct Parties {
-    pub initiator: Identifier,
-    pub responder: Identifier,
+    pub identifiers: Sides<Identifier>,
+}
+
+// Sixteen digits.
+fn identifier(text: &[u8]) -> Result<Identifier, LineFault>
+    requires { length text.now ≡ 16 }
+    ensures { result ≡ identifier_value text.now }
+{
+    let first = word(&text[..8])?;
+    let second = word(&text[8..])?;
+    Ok(Identifier { first, second })
 }
 
 impl Parties {
@@ -20,18 +30,12 @@ impl Parties {
         if line.len() != 33 || line[16] != b' ' {
             return Err(LineFault::NoIdentifiers);
         }
-        let a = word(&line[0..8])?;
-        let b = word(&line[8..16])?;
-        let c = word(&line[17..25])?;
-        let d = word(&line[25..33])?;
+        let initiator = identifier(&line[..16])?;
+        let responder = identifier(&line[17..])?;
         Ok(Parties {
-            initiator: Identifier {
-                first: a,
-                second: b,
-            },
-            responder: Identifier {
-                first: c,
-                second: d,
+            identifiers: Sides {
+                initiator,
+                responder,
             },
         })
     }

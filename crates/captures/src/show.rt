@@ -6,8 +6,8 @@ use std::fmt;
 
 impl fmt::Display for Parties {
     fn fmt<W: fmt::Write>(&self, f: &mut fmt::Formatter<W>) -> fmt::Result {
-        let i = u64::from(self.initiator);
-        let r = u64::from(self.responder);
+        let i = u64::from(self.identifiers.initiator);
+        let r = u64::from(self.identifiers.responder);
         write!(f, "initiator={i:016X} responder={r:016X}")
     }
 }

@@ -17,18 +17,18 @@ use Rattle.terms.proofs.Numbers.{number_back, bytes_back, number_lt, Bytes-drop,
 
 -- the first byte of a frame names it
 head_first : (t : FrameType) (towards : Role) → Goes t towards → head_of (first_byte t towards) ≡ Some (t, towards)
-head_first type.Au1 Initiator g = let z : ◌≡◌ {A = ℕ} 0 1 = cc in absurd (omega arith)
+head_first type.Au1 Initiator g = cc
 head_first type.Au1 Responder g = refl
 head_first type.Au2 Initiator g = refl
-head_first type.Au2 Responder g = let z : ◌≡◌ {A = ℕ} 0 1 = cc in absurd (omega arith)
-head_first type.Au3 Initiator g = let z : ◌≡◌ {A = ℕ} 0 1 = cc in absurd (omega arith)
+head_first type.Au2 Responder g = cc
+head_first type.Au3 Initiator g = cc
 head_first type.Au3 Responder g = refl
 head_first type.Dt Initiator g = refl
 head_first type.Dt Responder g = refl
 head_first type.Di Initiator g = refl
 head_first type.Di Responder g = refl
 head_first type.Ar Initiator g = refl
-head_first type.Ar Responder g = let z : ◌≡◌ {A = ℕ} 0 1 = cc in absurd (omega arith)
+head_first type.Ar Responder g = cc
 
 -- a first byte is that of a frame, or names none
 Named : ℕ → Type 0
@@ -130,7 +130,7 @@ sound_au1 body h n =
     let long : length rest ≡ 8 = length-drop 4 body ∙ (omega arith) in
     let hr = Bytes-drop 4 body h in
     (fits_64 rest hr long, ap (λ l. 2 ∷ l) (sym (ap (λ l. fixed_bytes ++ l) (bytes_back 8 rest hr long) ∙ fixed_front body same))))
-    (λ other. inr (inr (refl, (type.Au1, Responder, body, refl, refl, ap (λ k. eqb k 13) n, inl refl, (λ e. let z : true ≡ false = sym ((bytes_eq-Decides _ _).1 e) ∙ other in let w : ◌≡◌ {A = ℕ} 0 1 = cc in absurd (omega arith))))))
+    (λ other. inr (inr (refl, (type.Au1, Responder, body, refl, refl, ap (λ k. eqb k 13) n, inl refl, (λ e. let z : true ≡ false = sym ((bytes_eq-Decides _ _).1 e) ∙ other in cc)))))
 
 sound_au2 : (body : List ℕ) → Bytes body → suc (length body) ≡ 21 → Sound (5 ∷ body) (read_body type.Au2 Initiator body)
 unfolding Sound
@@ -144,7 +144,7 @@ sound_au2 body h n =
     let eight : length ignored ≡ 8 = simp (length-take, length-drop) (omega arith) in
     let whole : ignored ++ bytes 8 (number 0 rest) ≡ drop 4 body = ap (λ l. ignored ++ l) (bytes_back 8 rest hr long ∙ sym (drop-drop 8 4 body)) ∙ take-append-drop 8 (drop 4 body) in
     (fits_64 rest hr long, (ignored, eight, ap (λ l. 5 ∷ l) (sym (ap (λ l. fixed_bytes ++ l) whole ∙ fixed_front body same)))))
-    (λ other. inr (inr (refl, (type.Au2, Initiator, body, refl, refl, ap (λ k. eqb k 21) n, inr refl, (λ e. let z : true ≡ false = sym ((bytes_eq-Decides _ _).1 e) ∙ other in let w : ◌≡◌ {A = ℕ} 0 1 = cc in absurd (omega arith))))))
+    (λ other. inr (inr (refl, (type.Au2, Initiator, body, refl, refl, ap (λ k. eqb k 21) n, inr refl, (λ e. let z : true ≡ false = sym ((bytes_eq-Decides _ _).1 e) ∙ other in cc)))))
 
 two : (s : List ℕ) → length s ≡ 2 → get_or s 0 0 ∷ get_or s 1 0 ∷ [] ≡ s
 unfolding spell
@@ -192,12 +192,12 @@ sound (b ∷ body) h =
     (λ wrong. inr (inl (refl, (t, towards, body, k.2, is, wrong))))))
     (λ e.
     subst (Sound (b ∷ body)) (sym (ap (λ o. read_as o body) e))
-    (inl (refl, (b, body, refl, (λ t towards g is. let z : ◌≡◌ {A = Option (FrameType × Role)} (Some (t, towards)) None = sym (head_first t towards g) ∙ ap head_of (sym is) ∙ e in let w : ◌≡◌ {A = ℕ} 0 1 = cc in absurd (omega arith))))))
+    (inl (refl, (b, body, refl, (λ t towards g is. let z : ◌≡◌ {A = Option (FrameType × Role)} (Some (t, towards)) None = sym (head_first t towards g) ∙ ap head_of (sym is) ∙ e in cc)))))
     (named b)
 
 -- no answer is both, and none has two values
 ok_not_err : {f : FrameValue} {e : Refusal} → ◌≡◌ {A = Result FrameValue Refusal} (Ok f) (Err e) → ⊥
-ok_not_err p = let z : ◌≡◌ {A = ℕ} 0 1 = cc in absurd (omega arith)
+ok_not_err p = cc
 
 only : (s : List ℕ) (r : Result FrameValue Refusal) → read_frame s ≡ r → Sound s r → Judged s r
 unfolding Sound

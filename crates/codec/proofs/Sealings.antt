@@ -76,13 +76,13 @@ number_in None = 0
 
 one_of : (s : List ℕ) (r : Result FrameValue Refusal) → read_frame s ≡ r → Bytes s → Judged s r → BearsOne s (word_in r)
 unfolding number_in
-one_of s (Ok bare_di) e h j = none_bears s _ e (λ w t c p. let z : ◌≡◌ {A = ℕ} 0 1 = cc in absurd (omega arith))
-one_of s (Ok (au1 rb)) e h j = none_bears s _ e (λ w t c p. let z : ◌≡◌ {A = ℕ} 0 1 = cc in absurd (omega arith))
-one_of s (Ok (au2 mix)) e h j = none_bears s _ e (λ w t c p. let z : ◌≡◌ {A = ℕ} 0 1 = cc in absurd (omega arith))
-one_of s (Ok (au3 mix)) e h j = none_bears s _ e (λ w t c p. let z : ◌≡◌ {A = ℕ} 0 1 = cc in absurd (omega arith))
-one_of s (Ok (ar rb)) e h j = none_bears s _ e (λ w t c p. let z : ◌≡◌ {A = ℕ} 0 1 = cc in absurd (omega arith))
-one_of s (Ok (di towards codes)) e h j = none_bears s _ e (λ w t c p. let z : ◌≡◌ {A = ℕ} 0 1 = cc in absurd (omega arith))
-one_of s (Err x) e h j = none_bears s _ e (λ w t c p. let z : ◌≡◌ {A = ℕ} 0 1 = cc in absurd (omega arith))
+one_of s (Ok bare_di) e h j = none_bears s _ e (λ w t c p. cc)
+one_of s (Ok (au1 rb)) e h j = none_bears s _ e (λ w t c p. cc)
+one_of s (Ok (au2 mix)) e h j = none_bears s _ e (λ w t c p. cc)
+one_of s (Ok (au3 mix)) e h j = none_bears s _ e (λ w t c p. cc)
+one_of s (Ok (ar rb)) e h j = none_bears s _ e (λ w t c p. cc)
+one_of s (Ok (di towards codes)) e h j = none_bears s _ e (λ w t c p. cc)
+one_of s (Err x) e h j = none_bears s _ e (λ w t c p. cc)
 one_of s (Ok (dt towards t c)) e h j =
     let m = guarded towards t in
     let hc = code_bytes towards t c s j.0 h in

@@ -75,7 +75,7 @@ stands type-byte body h =
     (λ not88. record { type_is = refl; body_is = refl; proper = ((λ a b. not_both (eq-eqb _ _ a) not81), (λ a. not_both (eq-eqb _ _ a) not86), (λ a. not_both (eq-eqb _ _ a) not87), (λ a. not_both (eq-eqb _ _ a) not88)) }))))
   where
     not_both : {b : Bool} → b ≡ true → b ≡ false → ⊥
-    not_both p q = let z : true ≡ false = sym p ∙ q in let w : ◌≡◌ {A = ℕ} 0 1 = cc in absurd (omega arith)
+    not_both p q = cc
 
 -- a string, cut behind its first byte, SN and EC
 cut : (s : List ℕ) → 9 ≤ length s → get_or s 0 0 ∷ ((take 4 (drop 1 s) ++ take 4 (drop 5 s)) ++ drop 9 s) ≡ s
@@ -122,7 +122,7 @@ sound s h =
     (λ wrong. (refl, wrong))
 
 ok_not_err : {t : TelegramValue} {e : Refusal} → ◌≡◌ {A = Result TelegramValue Refusal} (Ok t) (Err e) → ⊥
-ok_not_err p = let z : ◌≡◌ {A = ℕ} 0 1 = cc in absurd (omega arith)
+ok_not_err p = cc
 
 only : (s : List ℕ) (r : Result TelegramValue Refusal) → read_telegram s ≡ r → Sound s r → TelegramJudged s r
 unfolding Sound
