@@ -8,3 +8,4 @@ pub mod LineFaults
 pub mod SheetFaults
 pub mod ScriptFaults
 pub mod ScriptReady
+pub mod LineValues

@@ -1,5 +1,5 @@
 -- A line that was read is written as it stood.
-use Rattle.std.proofs.Common.{◌≡◌, ℕ, ◌^◌, ◌<◌, ◌≤◌, List, ◌∷◌, ◌++◌, ℤ, Ok, decimal, sym, ap, ◌∙◌, append_assoc, arith}
+use Rattle.std.proofs.Common.{◌≡◌, ℕ, ◌^◌, ◌<◌, ◌≤◌, List, ◌∷◌, ◌++◌, ℤ, Ok, decimal, sym, ap, ◌∙◌, append_assoc, lit<, lit≤, arith}
 use Rattle.std.proofs.lemmas.Bool.{eqb-true}
 use Rattle.std.specs.Fmt.{signed_decimal}
 use Rattle.terms.specs.declared.role.Role.{Role}
@@ -7,19 +7,16 @@ use Rattle.terms.specs.declared.role.Role.TheVariants.{Initiator, Responder}
 use Rattle.texts.specs.declared.columns.Column.{Column}
 use Rattle.texts.specs.Columns.{text_in, number_in, below_in, hex_in}
 use Rattle.texts.specs.Numbers.{read_number, read_below, read_hex}
-use Rattle.texts.specs.Pieces.{value_at}
 use Rattle.texts.specs.Writing.{hex_text}
 use Rattle.texts.proofs.HexTrips.{then_parts, hex_back, below_back}
-use Rattle.texts.proofs.Joins.{values_back}
+use Rattle.texts.proofs.Joins.{values_text, values_back}
 use Rattle.texts.proofs.Trips.{number_back, number_parts}
-use Rattle.params.specs.declared.line.Identifiers.{Identifiers}
-use Rattle.params.specs.declared.line.Ages.{Ages}
-use Rattle.params.specs.declared.line.Limits.{Limits}
 use Rattle.params.specs.declared.values.Values.{Values}
 use Rattle.params.specs.Checks.{kept, kept_below, apart, checked}
 use Rattle.params.specs.Columns.{versions, periods, windows, mmins, mmaxs, asks, waits, setups, datas, ecs}
-use Rattle.params.specs.Lines.{role_column, read_identifiers, read_ages, read_limits, gathered, read_line}
-use Rattle.params.specs.Writing.{role_number, identifiers_text, ages_text, limits_text, line_text}
+use Rattle.params.specs.Lines.{role_column, read_values, read_line}
+use Rattle.params.specs.Writing.{role_number, line_text}
+use Rattle.params.proofs.LineValues.{ColumnsRead, values_were}
 use Rattle.params.proofs.Outcomes.{ok_same, at_parts, cond_ok}
 
 number_was : (c : Column) (line : List ℕ) (n : ℕ) → c.range.high < 2 ^ 64 → number_in c line ≡ Ok n → decimal n ≡ text_in c.place line
@@ -45,44 +42,25 @@ role_was Responder line n e =
 joins : {a b s t : List ℕ} → a ≡ b → s ≡ t → a ++ (32 ∷ s) ≡ b ++ (32 ∷ t)
 joins {b = b} {s = s} e r = ap (λ l. l ++ (32 ∷ s)) e ∙ ap (λ l. b ++ (32 ∷ l)) r
 
-identifiers_were : (role : Role) (line : List ℕ) (i : Identifiers) → read_identifiers role line ≡ Ok i
-    → (decimal (role_number role) ≡ value_at 0 line) × (identifiers_text i ≡ value_at 1 line ++ (32 ∷ (value_at 2 line ++ (32 ∷ (value_at 3 line ++ (32 ∷ value_at 4 line))))))
-identifiers_were role line i e =
-    let r = then_parts (number_in (role_column role) line) _ i e in
-    let a = then_parts (hex_in 2 line) _ i r.2 in
-    let b = then_parts (hex_in 3 line) _ i a.2 in
-    let c = then_parts (hex_in 4 line) _ i b.2 in
-    let d = then_parts (hex_in 5 line) _ i c.2 in (
-      role_was role line r.0 r.1,
-      ap identifiers_text (sym (ok_same d.2))
-          ∙ joins (hex_was 2 line a.0 a.1) (joins (hex_was 3 line b.0 b.1) (joins (hex_was 4 line c.0 c.1) (hex_was 5 line d.0 d.1))),
-    )
-
-ages_were : (line : List ℕ) (x : Ages) → read_ages line ≡ Ok x
-    → ages_text x ≡ value_at 5 line ++ (32 ∷ (value_at 6 line ++ (32 ∷ (value_at 7 line ++ (32 ∷ (value_at 8 line ++ (32 ∷ value_at 9 line)))))))
-ages_were line x e =
-    let a = then_parts (number_in versions line) _ x e in
-    let b = then_parts (number_in periods line) _ x a.2 in
-    let c = then_parts (number_in windows line) _ x b.2 in
-    let d = then_parts (below_in mmins line) _ x c.2 in
-    let f = then_parts (number_in mmaxs line) _ x d.2 in
-    ap ages_text (sym (ok_same f.2))
-    ∙ joins (number_was versions line a.0 (omega arith) a.1) (joins (number_was periods line b.0 (omega arith) b.1)
-    (joins (number_was windows line c.0 (omega arith) c.1) (joins (below_was mmins line d.0 (omega arith) (omega arith) d.1)
-    (number_was mmaxs line f.0 (omega arith) f.1))))
-
-limits_were : (line : List ℕ) (x : Limits) → read_limits line ≡ Ok x
-    → limits_text x ≡ value_at 10 line ++ (32 ∷ (value_at 11 line ++ (32 ∷ (value_at 12 line ++ (32 ∷ (value_at 13 line ++ (32 ∷ value_at 14 line)))))))
-limits_were line x e =
-    let a = then_parts (number_in asks line) _ x e in
-    let b = then_parts (number_in waits line) _ x a.2 in
-    let c = then_parts (number_in setups line) _ x b.2 in
-    let d = then_parts (number_in datas line) _ x c.2 in
-    let f = then_parts (number_in ecs line) _ x d.2 in
-    ap limits_text (sym (ok_same f.2))
-    ∙ joins (number_was asks line a.0 (omega arith) a.1) (joins (number_was waits line b.0 (omega arith) b.1)
-    (joins (number_was setups line c.0 (omega arith) c.1) (joins (number_was datas line d.0 (omega arith) d.1)
-    (number_was ecs line f.0 (omega arith) f.1))))
+-- the values one behind another, as they stood
+line_was : (role : Role) (line : List ℕ) (v : Values) → ColumnsRead role line v → line_text role v ≡ values_text 14 line
+line_was role line v r =
+    simp append_assoc
+    (joins (role_was role line r.number r.role_read)
+    (joins (hex_was 2 line v.own.first r.own1)
+    (joins (hex_was 3 line v.own.second r.own2)
+    (joins (hex_was 4 line v.far.first r.far1)
+    (joins (hex_was 5 line v.far.second r.far2)
+    (joins (number_was versions line v.version (lit< tt) r.version)
+    (joins (number_was periods line v.period.0 (lit< tt) r.period)
+    (joins (number_was windows line v.window (lit< tt) r.window)
+    (joins (below_was mmins line v.mmin (lit< tt) (lit≤ tt) r.mmin)
+    (joins (number_was mmaxs line v.mmax (lit< tt) r.mmax)
+    (joins (number_was asks line v.ask.0 (lit< tt) r.ask)
+    (joins (number_was waits line v.wait.0 (lit< tt) r.wait)
+    (joins (number_was setups line v.setup.0 (lit< tt) r.setup)
+    (joins (number_was datas line v.longest (lit< tt) r.longest)
+    (number_was ecs line v.ec.0 (lit< tt) r.ec)))))))))))))))
 
 -- checking changes no value
 pub checked_same : (w v : Values) → checked w ≡ Ok v → w ≡ v
@@ -104,11 +82,5 @@ checked_same w v e =
 pub line_back : (role : Role) (line : List ℕ) (v : Values) → read_line role line ≡ Ok v → line_text role v ≡ line
 line_back role line v e =
     let p = cond_ok _ _ _ v e in
-    let a = then_parts (read_identifiers role line) _ v p.1 in
-    let b = then_parts (read_ages line) _ v a.2 in
-    let c = then_parts (read_limits line) _ v b.2 in
-    let i = identifiers_were role line a.0 a.1 in
-    let same = checked_same (gathered a.0 b.0 c.0) v c.2 in
-    ap (line_text role) (sym same)
-    ∙ joins i.0 (joins i.1 (joins (ages_were line b.0 b.1) (limits_were line c.0 c.1)))
-    ∙ simp append_assoc (values_back 14 line (eqb-true _ _ p.0))
+    let r = then_parts (read_values role line) checked v p.1 in
+    ap (line_text role) (sym (checked_same r.0 v r.2)) ∙ line_was role line r.0 (values_were role line r.0 r.1) ∙ values_back 14 line (eqb-true _ _ p.0)

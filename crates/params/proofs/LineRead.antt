@@ -18,8 +18,9 @@ use Rattle.params.specs.declared.params.Params.{Params}
 use Rattle.params.specs.declared.values.Values.{Values}
 use Rattle.params.specs.Checks.{kept, kept_below, checked}
 use Rattle.params.specs.Columns.{KeepsBelow, versions, periods, windows, mmins, mmaxs, asks, waits, setups, datas, ecs}
-use Rattle.params.specs.Lines.{role_column, read_identifiers, read_ages, read_limits, read_line}
+use Rattle.params.specs.Lines.{role_column, read_line}
 use Rattle.params.specs.Writing.{role_number, line_text}
+use Rattle.params.proofs.LineValues.{ColumnsRead, values_read}
 use Rattle.params.proofs.Outcomes.{at_ok}
 
 -- the values of a line, each as it is written
@@ -138,16 +139,22 @@ line_reads role p =
     let line = line_text role v in
     let at = value_is role p in
     let count : count_of 32 line ≡ 14 = ap (count_of 32) (line_spaced role v) ∙ count_spaced (decimal (role_number role)) (pieces v) (role_free 32 (omega arith) role p) (frees 32 (omega arith) p) in
-    let ids : read_identifiers role line ≡ Ok record { own = v.own; far = v.far } =
-    then_at _ (role_at role line (at 0 (omega arith)))
-    ∙ then_at _ (hex_at 2 line v.own.first (at 1 (omega arith)) p.halves1.0) ∙ then_at _ (hex_at 3 line v.own.second (at 2 (omega arith)) p.halves2.0)
-    ∙ then_at _ (hex_at 4 line v.far.first (at 3 (omega arith)) p.halves1.1) ∙ then_at _ (hex_at 5 line v.far.second (at 4 (omega arith)) p.halves2.1) in
-    let ages : read_ages line ≡ Ok record { version = v.version; period = v.period; window = v.window; mmin = v.mmin; mmax = v.mmax } =
-    then_at _ (number_at versions line v.version (at 5 (omega arith)) (omega arith) p.version) ∙ then_at _ (number_at periods line v.period.0 (at 6 (omega arith)) (omega arith) p.period)
-    ∙ then_at _ (number_at windows line v.window (at 7 (omega arith)) (omega arith) p.window) ∙ then_at _ (below_at line v.mmin (at 8 (omega arith)) p.mmin)
-    ∙ then_at _ (number_at mmaxs line v.mmax (at 9 (omega arith)) (omega arith) p.mmax) in
-    let limits : read_limits line ≡ Ok record { ask = v.ask; wait = v.wait; setup = v.setup; longest = v.longest; ec = v.ec } =
-    then_at _ (number_at asks line v.ask.0 (at 10 (omega arith)) (omega arith) p.ask) ∙ then_at _ (number_at waits line v.wait.0 (at 11 (omega arith)) (omega arith) p.wait)
-    ∙ then_at _ (number_at setups line v.setup.0 (at 12 (omega arith)) (omega arith) p.setup) ∙ then_at _ (number_at datas line v.longest (at 13 (omega arith)) (omega arith) p.longest)
-    ∙ then_at _ (number_at ecs line v.ec.0 (at 14 (omega arith)) (omega arith) p.ec) in
-    cond-true _ _ _ (eq-eqb _ _ count) ∙ then_at _ ids ∙ then_at _ ages ∙ then_at _ limits ∙ checks p
+    let values : ColumnsRead role line v = record {
+      number = role_number role;
+      role_read = role_at role line (at 0 (omega arith));
+      own1 = hex_at 2 line v.own.first (at 1 (omega arith)) p.halves1.0;
+      own2 = hex_at 3 line v.own.second (at 2 (omega arith)) p.halves2.0;
+      far1 = hex_at 4 line v.far.first (at 3 (omega arith)) p.halves1.1;
+      far2 = hex_at 5 line v.far.second (at 4 (omega arith)) p.halves2.1;
+      version = number_at versions line v.version (at 5 (omega arith)) (omega arith) p.version;
+      period = number_at periods line v.period.0 (at 6 (omega arith)) (omega arith) p.period;
+      window = number_at windows line v.window (at 7 (omega arith)) (omega arith) p.window;
+      mmin = below_at line v.mmin (at 8 (omega arith)) p.mmin;
+      mmax = number_at mmaxs line v.mmax (at 9 (omega arith)) (omega arith) p.mmax;
+      ask = number_at asks line v.ask.0 (at 10 (omega arith)) (omega arith) p.ask;
+      wait = number_at waits line v.wait.0 (at 11 (omega arith)) (omega arith) p.wait;
+      setup = number_at setups line v.setup.0 (at 12 (omega arith)) (omega arith) p.setup;
+      longest = number_at datas line v.longest (at 13 (omega arith)) (omega arith) p.longest;
+      ec = number_at ecs line v.ec.0 (at 14 (omega arith)) (omega arith) p.ec;
+    } in
+    cond-true _ _ _ (eq-eqb _ _ count) ∙ then_at checked (values_read role line v values) ∙ checks p

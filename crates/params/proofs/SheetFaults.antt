@@ -14,20 +14,18 @@ use Rattle.texts.specs.Columns.{text_in, number_in, below_in}
 use Rattle.texts.specs.Faults.{whole_line, on_line}
 use Rattle.texts.specs.Numbers.{within, read_number, read_below}
 use Rattle.texts.specs.Pieces.{before, after, count_of}
-use Rattle.texts.proofs.HexTrips.{then_parts, then_at, below_kept_in}
+use Rattle.texts.proofs.HexTrips.{then_at, below_kept_in}
 use Rattle.texts.proofs.Trips.{number_parts}
-use Rattle.params.specs.declared.line.Identifiers.{Identifiers}
-use Rattle.params.specs.declared.line.Ages.{Ages}
-use Rattle.params.specs.declared.line.Limits.{Limits}
 use Rattle.params.specs.declared.values.Values.{Values}
 use Rattle.params.specs.Made.{Sheet as SheetSets, sheet_values}
 use Rattle.params.specs.Checks.{kept, kept_below, apart, checked}
 use Rattle.params.specs.Columns.{names, differing, distance, versions, periods, windows, mmins, mmaxs, asks, waits, setups, datas, ecs}
 use Rattle.params.specs.FirstFault.{GoodBefore, FirstInLine, from_line, good_lines, role_of, not_names, not_ended, one_more, in_line, FirstFault}
-use Rattle.params.specs.Lines.{read_identifiers, read_ages, read_limits, gathered, read_line}
+use Rattle.params.specs.Lines.{read_values, read_line}
 use Rattle.params.specs.Sheets.{read_row, read_rows, read_sheet}
-use Rattle.params.proofs.Outcomes.{ok_same, at_parts}
-use Rattle.params.proofs.LineFaults.{Firsts, steps, identifiers_first, ages_first, limits_first}
+use Rattle.params.proofs.Outcomes.{at_parts}
+use Rattle.params.proofs.LineFaults.{Firsts, steps, values_first}
+use Rattle.params.proofs.LineValues.{ColumnsRead, values_were}
 use Rattle.params.proofs.LineRead.{kept_at, below_kept}
 
 -- a value that was read passes the check of a parameter set
@@ -37,30 +35,22 @@ number_kept c line n e = kept_at c n (number_parts c.range (text_in c.place line
 mmin_kept : (line : List ℕ) (z : ℤ) → below_in mmins line ≡ Ok z → kept_below mmins z ≡ Ok tt
 mmin_kept line z e = below_kept z (below_kept_in mmins.range (text_in 9 line) z (at_parts (read_below mmins.range (text_in 9 line)) 9 z e))
 
--- only the differing bits are left to check
-only_bits : (line : List ℕ) (i : Identifiers) (x : Ages) (l : Limits) → read_ages line ≡ Ok x → read_limits line ≡ Ok l
-    → checked (gathered i x l) ≡ then (apart i.own.first i.far.first) (λ _. then (apart i.own.second i.far.second) (λ _. Ok (gathered i x l)))
-only_bits line i x l ea el =
-    let a = then_parts (number_in versions line) _ x ea in
-    let b = then_parts (number_in periods line) _ x a.2 in
-    let c = then_parts (number_in windows line) _ x b.2 in
-    let d = then_parts (below_in mmins line) _ x c.2 in
-    let f = then_parts (number_in mmaxs line) _ x d.2 in
-    let g = then_parts (number_in asks line) _ l el in
-    let h = then_parts (number_in waits line) _ l g.2 in
-    let j = then_parts (number_in setups line) _ l h.2 in
-    let k = then_parts (number_in datas line) _ l j.2 in
-    let m = then_parts (number_in ecs line) _ l k.2 in
-    let y : Ages = record { version = a.0; period = record { 0 = b.0 }; window = c.0; mmin = d.0; mmax = f.0 } in
-    let z : Limits = record { ask = record { 0 = g.0 }; wait = record { 0 = h.0 }; setup = record { 0 = j.0 }; longest = k.0; ec = record { 0 = m.0 } } in
-    let ey : y ≡ x = ok_same f.2 in
-    let ez : z ≡ l = ok_same m.2 in
-    subst (λ q. checked (gathered i q l) ≡ then (apart i.own.first i.far.first) (λ _. then (apart i.own.second i.far.second) (λ _. Ok (gathered i q l)))) ey
-    (subst (λ q. checked (gathered i y q) ≡ then (apart i.own.first i.far.first) (λ _. then (apart i.own.second i.far.second) (λ _. Ok (gathered i y q)))) ez
-    (then_at _ (number_kept versions line a.0 a.1) ∙ then_at _ (number_kept periods line b.0 b.1) ∙ then_at _ (number_kept windows line c.0 c.1)
-    ∙ then_at _ (mmin_kept line d.0 d.1) ∙ then_at _ (number_kept mmaxs line f.0 f.1) ∙ then_at _ (number_kept asks line g.0 g.1)
-    ∙ then_at _ (number_kept waits line h.0 h.1) ∙ then_at _ (number_kept setups line j.0 j.1) ∙ then_at _ (number_kept datas line k.0 k.1)
-    ∙ then_at _ (number_kept ecs line m.0 m.1)))
+-- the differing bits, which alone are left to check
+abbrev bits : Values → Result Values LineFault
+bits v = then (apart v.own.first v.far.first) (λ _. then (apart v.own.second v.far.second) (λ _. Ok v))
+
+only_bits : (role : Role) (line : List ℕ) (v : Values) → ColumnsRead role line v → checked v ≡ bits v
+only_bits role line v r =
+    then_at _ (number_kept versions line v.version r.version)
+    ∙ then_at _ (number_kept periods line v.period.0 r.period)
+    ∙ then_at _ (number_kept windows line v.window r.window)
+    ∙ then_at _ (mmin_kept line v.mmin r.mmin)
+    ∙ then_at _ (number_kept mmaxs line v.mmax r.mmax)
+    ∙ then_at _ (number_kept asks line v.ask.0 r.ask)
+    ∙ then_at _ (number_kept waits line v.wait.0 r.wait)
+    ∙ then_at _ (number_kept setups line v.setup.0 r.setup)
+    ∙ then_at _ (number_kept datas line v.longest r.longest)
+    ∙ then_at _ (number_kept ecs line v.ec.0 r.ec)
 
 bits_by : (role : Role) (line : List ℕ) (b : Bool) (f : Unit {0} → Result Values LineFault) → GoodBefore role line 16 → (GoodBefore role line 16 → Firsts role line 16 (f tt))
     → Firsts role line 16 (then (cond b (Ok tt) (Err (whole_line DifferingBits))) f)
@@ -79,12 +69,10 @@ counted_first role line false r e h = record { earlier = λ k low high. absurd (
 pub line_first : (role : Role) (line : List ℕ) → Firsts role line 16 (read_line role line)
 line_first role line =
     counted_first role line (eqb (count_of 32 line) 14) _ refl
-    (steps role line 6 16 (read_identifiers role line) _ (identifiers_first role line) (λ i _ g.
-    steps role line 11 16 (read_ages line) _ (ages_first role line g) (λ x ex g.
-    steps role line 16 16 (read_limits line) _ (limits_first role line g) (λ l el g.
-    subst (Firsts role line 16) (sym (only_bits line i x l ex el))
-    (bits_first role line i.own.first i.far.first (λ _. then (apart i.own.second i.far.second) (λ _. Ok (gathered i x l))) g
-    (λ g. bits_first role line i.own.second i.far.second (λ _. Ok (gathered i x l)) g (λ g. g)))))))
+    (steps role line 16 16 (read_values role line) checked (values_first role line) (λ v e g.
+    subst (Firsts role line 16) (sym (only_bits role line v (values_were role line v e)))
+    (bits_first role line v.own.first v.far.first (λ _. then (apart v.own.second v.far.second) (λ _. Ok v)) g
+    (λ g. bits_first role line v.own.second v.far.second (λ _. Ok v) g (λ g. g)))))
 
 -- what the fault of one of the two lines says
 abbrev RowFault : Role → ℕ → List ℕ → FileFault → Type 0

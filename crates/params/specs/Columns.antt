@@ -1,5 +1,6 @@
 -- The columns of a sheet: the place and the range of each, named once.
 use Rattle.std.specs.Prelude.{ℕ, ◌^◌, ◌<◌, Bool, ◌&&◌, List, ℤ, pos, neg_ℤ, ◌≤ℤ◌, codes, bit_xor, count_ones, int_le}
+use Rattle.terms.specs.declared.sides.Sides.{Sides}
 use Rattle.texts.specs.declared.columns.Column.{Column}
 use Rattle.texts.specs.declared.numbers.Range.{Range}
 use Rattle.texts.specs.Numbers.{Within}
@@ -13,11 +14,8 @@ abbrev pub column : ℕ → ℕ → ℕ → Column
 column place low high = record { place = place; range = record { low = low; high = high } }
 
 -- the role is the line's own
-abbrev pub initiators : Column
-initiators = column 1 1 1
-
-abbrev pub responders : Column
-responders = column 1 0 0
+abbrev pub roles : Sides Column
+roles = record { initiator = column 1 1 1; responder = column 1 0 0 }
 
 abbrev pub versions : Column
 versions = column 6 0 255

@@ -4,36 +4,29 @@ use Rattle.std.specs.Fmt.{signed_decimal}
 use Rattle.terms.specs.declared.role.Role.{Role}
 use Rattle.terms.specs.declared.role.Role.TheVariants.{Initiator, Responder}
 use Rattle.texts.specs.Writing.{hex_text}
-use Rattle.params.specs.declared.line.Identifiers.{Identifiers}
-use Rattle.params.specs.declared.line.Ages.{Ages}
-use Rattle.params.specs.declared.line.Limits.{Limits}
 use Rattle.params.specs.declared.values.Values.{Values}
 use Rattle.params.specs.Columns.{names}
+use Rattle.params.specs.Lines.{role_column}
 
--- the number that a role has in a sheet
+-- the number that a role has in a sheet: the only one that its column takes
 abbrev pub role_number : Role → ℕ
-role_number Initiator = 1
-role_number Responder = 0
+role_number role = (role_column role).range.low
 
 -- values one behind another, with a space, 32, between them
-abbrev pub identifiers_text : Identifiers → List ℕ
-identifiers_text i =
-    hex_text i.own.first ++ (32 ∷ (hex_text i.own.second ++ (32 ∷ (hex_text i.far.first ++ (32 ∷ hex_text i.far.second)))))
+abbrev pub identifiers_text : Values → List ℕ
+identifiers_text v =
+    hex_text v.own.first ++ (32 ∷ (hex_text v.own.second ++ (32 ∷ (hex_text v.far.first ++ (32 ∷ hex_text v.far.second)))))
 
-abbrev pub ages_text : Ages → List ℕ
-ages_text a =
-    decimal a.version ++ (32 ∷ (decimal a.period.0 ++ (32 ∷ (decimal a.window ++ (32 ∷ (signed_decimal a.mmin ++ (32 ∷ decimal a.mmax)))))))
+abbrev pub ages_text : Values → List ℕ
+ages_text v =
+    decimal v.version ++ (32 ∷ (decimal v.period.0 ++ (32 ∷ (decimal v.window ++ (32 ∷ (signed_decimal v.mmin ++ (32 ∷ decimal v.mmax)))))))
 
-abbrev pub limits_text : Limits → List ℕ
-limits_text l =
-    decimal l.ask.0 ++ (32 ∷ (decimal l.wait.0 ++ (32 ∷ (decimal l.setup.0 ++ (32 ∷ (decimal l.longest ++ (32 ∷ decimal l.ec.0)))))))
+abbrev pub limits_text : Values → List ℕ
+limits_text v =
+    decimal v.ask.0 ++ (32 ∷ (decimal v.wait.0 ++ (32 ∷ (decimal v.setup.0 ++ (32 ∷ (decimal v.longest ++ (32 ∷ decimal v.ec.0)))))))
 
 abbrev pub line_text : Role → Values → List ℕ
-line_text role v =
-    decimal (role_number role)
-    ++ (32 ∷ (identifiers_text record { own = v.own; far = v.far }
-    ++ (32 ∷ (ages_text record { version = v.version; period = v.period; window = v.window; mmin = v.mmin; mmax = v.mmax }
-    ++ (32 ∷ limits_text record { ask = v.ask; wait = v.wait; setup = v.setup; longest = v.longest; ec = v.ec })))))
+line_text role v = decimal (role_number role) ++ (32 ∷ (identifiers_text v ++ (32 ∷ (ages_text v ++ (32 ∷ limits_text v)))))
 
 -- the names, the initiator's line and the responder's, each with a line feed, 10, behind it
 abbrev pub sheet_text : Values × Values → List ℕ

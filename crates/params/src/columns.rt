@@ -1,4 +1,5 @@
 // The columns of a sheet: the names line, and the place and the range of each column, named once.
+use terms::sides::Sides;
 use texts::columns::Column;
 use texts::numbers::Range;
 
@@ -9,14 +10,15 @@ pub const NAMES: &str =
 pub const COLUMNS: usize = 15;
 
 // the role of a line, by the only number that may stand there
-pub const INITIATOR: Column = Column {
-    place: 1,
-    range: Range { low: 1, high: 1 },
-};
-
-pub const RESPONDER: Column = Column {
-    place: 1,
-    range: Range { low: 0, high: 0 },
+pub const ROLES: Sides<Column> = Sides {
+    initiator: Column {
+        place: 1,
+        range: Range { low: 1, high: 1 },
+    },
+    responder: Column {
+        place: 1,
+        range: Range { low: 0, high: 0 },
+    },
 };
 
 // the identifiers, by their places

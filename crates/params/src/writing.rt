@@ -2,51 +2,70 @@
 ghost use Rattle.std.specs.Prelude.{◌≡◌, IfOk, Some, Ok, string_bytes};
 ghost use Rattle.params.specs.Made.{both_values};
 ghost use Rattle.params.specs.Sheets.{read_sheet};
-ghost use Rattle.params.specs.Writing.{role_number, identifiers_text, ages_text, limits_text, line_text, sheet_text};
+ghost use Rattle.params.specs.Writing.{identifiers_text, ages_text, limits_text, line_text, sheet_text};
 
-use super::columns::NAMES;
-use super::line::{Ages, Identifiers, Limits};
+use super::columns::{NAMES, ROLES};
 use super::sheet::Sheet;
-use super::values::Values;
+use super::values::{Milliseconds, Values};
 use std::alloc::{AllocError, Global};
 use std::fmt;
+use terms::counters::{ExecutionCycle, Ticks};
 use terms::role::Role;
 use texts::writing::Hex;
 
+// Who speaks to whom: columns 2 to 5 of a line.
+#[derive(Clone, Copy)]
+pub(crate) struct Identifiers(pub(crate) Values);
+
 impl fmt::Display for Identifiers {
-    ghost output = { λ i. Some (identifiers_text i) };
+    ghost output = { λ i. Some (identifiers_text i.0) };
 
     fn fmt<W: fmt::Write>(&self, f: &mut fmt::Formatter<W>) -> fmt::Result {
-        let own1 = Hex(self.own.first);
-        let own2 = Hex(self.own.second);
-        let far1 = Hex(self.far.first);
-        let far2 = Hex(self.far.second);
+        let Values { own, far, .. } = self.0;
+        let own1 = Hex(own.first);
+        let own2 = Hex(own.second);
+        let far1 = Hex(far.first);
+        let far2 = Hex(far.second);
         write!(f, "{own1} {own2} {far1} {far2}")
     }
 }
 
+// What a telegram is judged by: columns 6 to 10.
+#[derive(Clone, Copy)]
+pub(crate) struct Ages(pub(crate) Values);
+
 impl fmt::Display for Ages {
-    ghost output = { λ a. Some (ages_text a) };
+    ghost output = { λ a. Some (ages_text a.0) };
 
     fn fmt<W: fmt::Write>(&self, f: &mut fmt::Formatter<W>) -> fmt::Result {
-        let version = self.version;
-        let period = self.period.0;
-        let window = self.window;
-        let mmin = self.mmin;
-        let mmax = self.mmax;
+        let Values {
+            version,
+            period: Milliseconds(period),
+            window,
+            mmin,
+            mmax,
+            ..
+        } = self.0;
         write!(f, "{version} {period} {window} {mmin} {mmax}")
     }
 }
 
+// The limits of an end, and where it starts: columns 11 to 15.
+#[derive(Clone, Copy)]
+pub(crate) struct Limits(pub(crate) Values);
+
 impl fmt::Display for Limits {
-    ghost output = { λ l. Some (limits_text l) };
+    ghost output = { λ l. Some (limits_text l.0) };
 
     fn fmt<W: fmt::Write>(&self, f: &mut fmt::Formatter<W>) -> fmt::Result {
-        let ask = self.ask.0;
-        let wait = self.wait.0;
-        let setup = self.setup.0;
-        let longest = self.longest;
-        let ec = self.ec.0;
+        let Values {
+            ask: Ticks(ask),
+            wait: Ticks(wait),
+            setup: Ticks(setup),
+            longest,
+            ec: ExecutionCycle(ec),
+            ..
+        } = self.0;
         write!(f, "{ask} {wait} {setup} {longest} {ec}")
     }
 }
@@ -58,39 +77,14 @@ pub(crate) struct Line {
     pub(crate) values: Values,
 }
 
-fn role_number(role: Role) -> u8
-    ensures { result ≡ role_number role }
-{
-    match role {
-        Role::Initiator => 1,
-        Role::Responder => 0,
-    }
-}
-
 impl fmt::Display for Line {
     ghost output = { λ l. Some (line_text l.role l.values) };
 
     fn fmt<W: fmt::Write>(&self, f: &mut fmt::Formatter<W>) -> fmt::Result {
-        let role = role_number(self.role);
-        let values = self.values;
-        let identifiers = Identifiers {
-            own: values.own,
-            far: values.far,
-        };
-        let ages = Ages {
-            version: values.version,
-            period: values.period,
-            window: values.window,
-            mmin: values.mmin,
-            mmax: values.mmax,
-        };
-        let limits = Limits {
-            ask: values.ask,
-            wait: values.wait,
-            setup: values.setup,
-            longest: values.longest,
-            ec: values.ec,
-        };
+        let role = ROLES.at(self.role).range.low;
+        let identifiers = Identifiers(self.values);
+        let ages = Ages(self.values);
+        let limits = Limits(self.values);
         write!(f, "{role} {identifiers} {ages} {limits}")
     }
 }
