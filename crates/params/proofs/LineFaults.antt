@@ -2,6 +2,7 @@
 use Rattle.std.proofs.Common.{◌≡◌, ℕ, ◌+◌, ◌≤◌, List, Ok, Err, Result, sym, refl, subst, ⊎_elim, arith}
 use Rattle.std.proofs.lemmas.Bool.{cases_eq}
 use Rattle.terms.specs.Outcomes.{then}
+use Rattle.terms.specs.declared.identifier.Identifier.{Identifier}
 use Rattle.terms.specs.declared.role.Role.{Role}
 use Rattle.terms.specs.declared.role.Role.TheVariants.{Initiator, Responder}
 use Rattle.texts.specs.declared.fault.Fault.{Fault}
@@ -37,6 +38,14 @@ module _ (role : Role) (line : List ℕ) where
   none : GoodBefore role line 1
   none k low high = absurd (omega arith)
 
+  -- the two halves of an identifier after the columns before them
+  halves : {U : Type 0} (n m : ℕ) (r s : Result ℕ Fault) (f : Identifier → Result U LineFault) → 1 ≤ n → judged role line n ≡ verdict r → judged role line (n + 1) ≡ verdict s
+      → GoodBefore role line n → ((i : Identifier) → GoodBefore role line (n + 1 + 1) → Firsts m (f i))
+      → Firsts m (then (then (at_column r n) (λ a. then (at_column s (n + 1)) (λ b. Ok record { first = a; second = b }))) f)
+  halves n m (Ok a) (Ok b) f low j k g next = next record { first = a; second = b } (more (n + 1) (more n g j) k)
+  halves n m (Ok a) (Err e) f low j k g next = record { earlier = more n g j; here = λ _. k; whole = λ z. absurd (omega arith) }
+  halves n m (Err e) s f low j k g next = record { earlier = g; here = λ _. j; whole = λ z. absurd (omega arith) }
+
 -- the role's column comes first
 role_first : {U : Type 0} (role : Role) (line : List ℕ) (f : ℕ → Result U LineFault) → ((x : ℕ) → GoodBefore role line 2 → Firsts role line 16 (f x))
     → Firsts role line 16 (then (number_in (role_column role) line) f)
@@ -46,10 +55,8 @@ role_first Responder line f next = step Responder line 1 16 (read_number (role_c
 pub values_first : (role : Role) (line : List ℕ) → Firsts role line 16 (read_values role line)
 values_first role line =
     role_first role line _ (λ _ g.
-    step role line 2 16 (read_hex (text_in 2 line)) _ (omega arith) refl g (λ own1 g.
-    step role line 3 16 (read_hex (text_in 3 line)) _ (omega arith) refl g (λ own2 g.
-    step role line 4 16 (read_hex (text_in 4 line)) _ (omega arith) refl g (λ far1 g.
-    step role line 5 16 (read_hex (text_in 5 line)) _ (omega arith) refl g (λ far2 g.
+    halves role line 2 16 (read_hex (text_in 2 line)) (read_hex (text_in 3 line)) _ (omega arith) refl refl g (λ own g.
+    halves role line 4 16 (read_hex (text_in 4 line)) (read_hex (text_in 5 line)) _ (omega arith) refl refl g (λ far g.
     step role line 6 16 (read_number versions.range (text_in 6 line)) _ (omega arith) refl g (λ version g.
     step role line 7 16 (read_number periods.range (text_in 7 line)) _ (omega arith) refl g (λ period g.
     step role line 8 16 (read_number windows.range (text_in 8 line)) _ (omega arith) refl g (λ window g.
@@ -59,4 +66,4 @@ values_first role line =
     step role line 12 16 (read_number waits.range (text_in 12 line)) _ (omega arith) refl g (λ wait g.
     step role line 13 16 (read_number setups.range (text_in 13 line)) _ (omega arith) refl g (λ setup g.
     step role line 14 16 (read_number datas.range (text_in 14 line)) _ (omega arith) refl g (λ longest g.
-    step role line 15 16 (read_number ecs.range (text_in 15 line)) _ (omega arith) refl g (λ ec g. g)))))))))))))))
+    step role line 15 16 (read_number ecs.range (text_in 15 line)) _ (omega arith) refl g (λ ec g. g)))))))))))))

@@ -1,11 +1,12 @@
 -- A line reads as its values exactly where each of its columns reads as its value.
 use Rattle.std.proofs.Common.{◌≡◌, ℕ, List, Ok, ◌∙◌, subst}
+use Rattle.terms.specs.declared.identifier.Identifier.{Identifier}
 use Rattle.terms.specs.declared.role.Role.{Role}
 use Rattle.texts.specs.Columns.{number_in, below_in, hex_in}
 use Rattle.texts.proofs.HexTrips.{then_parts, then_at}
 use Rattle.params.specs.declared.values.Values.{Values}
 use Rattle.params.specs.Columns.{versions, periods, windows, mmins, mmaxs, asks, waits, setups, datas, ecs}
-use Rattle.params.specs.Lines.{role_column, read_values}
+use Rattle.params.specs.Lines.{role_column, read_identifier, read_values}
 use Rattle.params.proofs.Outcomes.{ok_same}
 
 pub record ColumnsRead (role : Role) (line : List ℕ) (v : Values) : Type 0 where
@@ -29,10 +30,8 @@ pub record ColumnsRead (role : Role) (line : List ℕ) (v : Values) : Type 0 whe
 pub values_read : (role : Role) (line : List ℕ) (v : Values) → ColumnsRead role line v → read_values role line ≡ Ok v
 values_read role line v r =
     then_at _ r.role_read
-    ∙ then_at _ r.own1
-    ∙ then_at _ r.own2
-    ∙ then_at _ r.far1
-    ∙ then_at _ r.far2
+    ∙ then_at _ (then_at _ r.own1 ∙ then_at _ r.own2)
+    ∙ then_at _ (then_at _ r.far1 ∙ then_at _ r.far2)
     ∙ then_at _ r.version
     ∙ then_at _ r.period
     ∙ then_at _ r.window
@@ -44,14 +43,18 @@ values_read role line v r =
     ∙ then_at _ r.longest
     ∙ then_at _ r.ec
 
+halves_were : (a b : ℕ) (line : List ℕ) (i : Identifier) → read_identifier a b line ≡ Ok i → (hex_in a line ≡ Ok i.first) × (hex_in b line ≡ Ok i.second)
+halves_were a b line i e =
+    let first = then_parts (hex_in a line) _ i e in
+    let second = then_parts (hex_in b line) _ i first.2 in
+    subst (λ x. (hex_in a line ≡ Ok x.first) × (hex_in b line ≡ Ok x.second)) (ok_same second.2) (first.1, second.1)
+
 pub values_were : (role : Role) (line : List ℕ) (v : Values) → read_values role line ≡ Ok v → ColumnsRead role line v
 values_were role line v e =
     let number = then_parts (number_in (role_column role) line) _ v e in
-    let own1 = then_parts (hex_in 2 line) _ v number.2 in
-    let own2 = then_parts (hex_in 3 line) _ v own1.2 in
-    let far1 = then_parts (hex_in 4 line) _ v own2.2 in
-    let far2 = then_parts (hex_in 5 line) _ v far1.2 in
-    let version = then_parts (number_in versions line) _ v far2.2 in
+    let own = then_parts (read_identifier 2 3 line) _ v number.2 in
+    let far = then_parts (read_identifier 4 5 line) _ v own.2 in
+    let version = then_parts (number_in versions line) _ v far.2 in
     let period = then_parts (number_in periods line) _ v version.2 in
     let window = then_parts (number_in windows line) _ v period.2 in
     let mmin = then_parts (below_in mmins line) _ v window.2 in
@@ -64,10 +67,10 @@ values_were role line v e =
     subst (ColumnsRead role line) (ok_same ec.2) record {
       number = number.0;
       role_read = number.1;
-      own1 = own1.1;
-      own2 = own2.1;
-      far1 = far1.1;
-      far2 = far2.1;
+      own1 = (halves_were 2 3 line own.0 own.1).0;
+      own2 = (halves_were 2 3 line own.0 own.1).1;
+      far1 = (halves_were 4 5 line far.0 far.1).0;
+      far2 = (halves_were 4 5 line far.0 far.1).1;
       version = version.1;
       period = period.1;
       window = window.1;

@@ -1,5 +1,6 @@
 -- One line of a sheet: fifteen values with single spaces between them.
 use Rattle.std.specs.Prelude.{ℕ, cond, List, Ok, Err, Result, ◌==◌}
+use Rattle.terms.specs.declared.identifier.Identifier.{Identifier}
 use Rattle.terms.specs.declared.role.Role.{Role}
 use Rattle.terms.specs.Outcomes.{then}
 use Rattle.terms.specs.Sides.{at}
@@ -17,14 +18,19 @@ use Rattle.params.specs.Columns.{roles, versions, periods, windows, mmins, mmaxs
 abbrev pub role_column : Role → Column
 role_column role = at roles role
 
+-- the two halves of an identifier, by their columns
+abbrev pub read_identifier : ℕ → ℕ → List ℕ → Result Identifier LineFault
+read_identifier first second line =
+    then (hex_in first line) (λ a.
+    then (hex_in second line) (λ b.
+    Ok record { first = a; second = b }))
+
 -- the values in order, each within its column's range
 abbrev pub read_values : Role → List ℕ → Result Values LineFault
 read_values role line =
     then (number_in (role_column role) line) (λ _.
-    then (hex_in 2 line) (λ own1.
-    then (hex_in 3 line) (λ own2.
-    then (hex_in 4 line) (λ far1.
-    then (hex_in 5 line) (λ far2.
+    then (read_identifier 2 3 line) (λ own.
+    then (read_identifier 4 5 line) (λ far.
     then (number_in versions line) (λ version.
     then (number_in periods line) (λ period.
     then (number_in windows line) (λ window.
@@ -36,8 +42,8 @@ read_values role line =
     then (number_in datas line) (λ longest.
     then (number_in ecs line) (λ ec.
     Ok record {
-      own = record { first = own1; second = own2 };
-      far = record { first = far1; second = far2 };
+      own = own;
+      far = far;
       version = version;
       period = record { 0 = period };
       window = window;
@@ -48,7 +54,7 @@ read_values role line =
       setup = record { 0 = setup };
       longest = longest;
       ec = record { 0 = ec };
-    })))))))))))))))
+    })))))))))))))
 
 -- a line has fifteen values, so fourteen spaces; then come the values; then the differing bits
 abbrev pub read_line : Role → List ℕ → Result Values LineFault

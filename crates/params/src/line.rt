@@ -1,6 +1,6 @@
 // One line of a sheet: fifteen values with single spaces between them.
 ghost use Rattle.std.specs.Prelude.{◌≡◌};
-ghost use Rattle.params.specs.Lines.{read_values, read_line};
+ghost use Rattle.params.specs.Lines.{read_identifier, read_values, read_line};
 ghost use Rattle.params.specs.Made.{values_of};
 
 use super::columns::{
@@ -16,20 +16,24 @@ use texts::columns::{below_in, hex_in, number_in};
 use texts::cutting::count;
 use texts::fault::{Fault, LineFault};
 
+// The two halves of an identifier, by their columns.
+fn read_identifier(line: &[u8], first: u8, second: u8) -> Result<Identifier, LineFault>
+    ensures { result ≡ read_identifier first second line.now }
+{
+    Ok(Identifier {
+        first: hex_in(line, first)?,
+        second: hex_in(line, second)?,
+    })
+}
+
 // The values of a line for the given role, each within its column's range.
 fn read_values(line: &[u8], role: Role) -> Result<Values, LineFault>
     ensures { result ≡ read_values role line.now }
 {
     number_in(line, *ROLES.at(role))?;
     Ok(Values {
-        own: Identifier {
-            first: hex_in(line, OWN1)?,
-            second: hex_in(line, OWN2)?,
-        },
-        far: Identifier {
-            first: hex_in(line, FAR1)?,
-            second: hex_in(line, FAR2)?,
-        },
+        own: read_identifier(line, OWN1, OWN2)?,
+        far: read_identifier(line, FAR1, FAR2)?,
         version: number_in(line, VERSION)? as u8,
         period: Milliseconds(number_in(line, PERIOD)? as u16),
         window: number_in(line, WINDOW)?,

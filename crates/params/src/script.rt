@@ -124,6 +124,7 @@ fn read_calls(heap: Global, text: &[u8]) -> Result<Vec<Call<Vec<u8>>>, ScriptErr
 {
     let mut calls = Vec::new(heap);
     let mut rest = text;
+    // a loop over the numbers of the lines: they bound the script, and a fault names its own
     for line in 2..PAST_CALLS {
         if rest.is_empty() {
             return Ok(calls);

@@ -90,6 +90,7 @@ impl fmt::Display for Line {
 }
 
 // The text of a sheet, which reads back as the same sheet.
+#[tactic(auto, using(crate::proofs::SheetTrips::sheet_reads))]
 pub fn write_sheet(heap: Global, sheet: &Sheet) -> Result<String, AllocError>
     ensures text { IfOk result (λ t. string_bytes t ≡ sheet_text (both_values sheet.now)) }
     ensures reread { IfOk result (λ t. read_sheet (string_bytes t) ≡ Ok (both_values sheet.now)) }

@@ -22,7 +22,6 @@ pub fn cut(s: &[u8], c: u8) -> (&[u8], &[u8])
 }
 
 // Whether no `c` stands in `s`. It looks no further than the first, so that a file is read in one pass.
-#[tactic(auto, using(crate::proofs::Cuts::lacks_law))]
 pub(crate) fn lacks(s: &[u8], c: u8) -> bool
     ensures { result ≡ (count_of c s.now == 0) }
 {

@@ -88,6 +88,7 @@ pub(crate) fn hex(s: &[u8]) -> Result<u32, Fault>
     if s.len() != 8 {
         return Err(Fault::WrongForm);
     }
+    // not a fold: that the sum of eight digits fits is known only from one step to the next
     let mut n = 0u32;
     for b in s {
         let d = hex_digit(*b)?;
