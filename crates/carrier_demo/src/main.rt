@@ -3,96 +3,48 @@
 #![tactic(auto)]
 
 mod packed;
+mod shown;
 
+use carrier::Carrier;
 use carrier::fault::{Choice, FaultWire};
 use carrier::fifo::FifoWire;
-use carrier::{Carrier, GREATEST_LENGTH, Keeping};
 use pair::RedundantPair;
+use shown::Shown;
 use std::alloc::{AllocError, Global};
 use std::io;
 use terms::role::Role;
 
 // The normal wire has room for one short packet towards the responder, and the redundant one for several.
 fn new_pair(heap: Global) -> Result<RedundantPair<FifoWire, FaultWire>, AllocError> {
-    let choices = vec![in heap;
-        Choice {
-            number: 1,
-            stays: true
-        },
-        Choice {
-            number: 0,
-            stays: false
-        },
-        Choice {
-            number: 2,
-            stays: false
-        },
-        Choice {
-            number: 9,
-            stays: false
-        },
-    ]?;
+    let choices = [(1, true), (0, false), (2, false), (9, false)].map(|(number, stays)| Choice {
+        number,
+        stays,
+    });
     let normal = FifoWire::new(heap, 64, 16)?;
-    let redundant = FaultWire::new(heap, 64, 64, choices)?;
+    let redundant = FaultWire::new(heap, 64, 64, Vec::from_array(heap, choices)?)?;
     Ok(RedundantPair::new(normal, redundant))
 }
 
-fn show_put<C: Carrier>(
-    rt: &HostRuntime,
-    carrier: &mut C,
-    from: Role,
-    frame: &[u8],
-) -> io::Result<()> {
-    let len = frame.len();
-    match carrier.put(from, frame) {
-        Ok(Keeping::Kept) => println!(rt; "put {from:?} {len}: kept"),
-        Ok(Keeping::NotKept) => println!(rt; "put {from:?} {len}: not kept"),
-        Err(refusal) => println!(rt; "put {from:?} {len}: {refusal:?}"),
+fn puts<C: Carrier>(shown: &mut Shown<'_, C>) -> io::Result<()> {
+    let frames: [&[u8]; 5] = [&[0x0B, 1, 2], &[0x10, 5, 6], &[7; 60], &[], &[7; 1086]];
+    for frame in frames {
+        shown.put(Role::Initiator, frame)?;
     }
+    Ok(())
 }
 
-fn show_fetch<C: Carrier>(
-    rt: &HostRuntime,
-    carrier: &mut C,
-    at: Role,
-    buf: &mut [u8],
-) -> io::Result<()> {
-    match carrier.fetch(at, buf) {
-        Ok(Some(n)) => {
-            let frame = &buf[0..n];
-            println!(rt; "fetch {at:?}: {frame:?}")
-        }
-        Ok(None) => println!(rt; "fetch {at:?}: none"),
-        Err(refusal) => println!(rt; "fetch {at:?}: {refusal:?}"),
-    }
-}
-
-fn puts<C: Carrier>(rt: &HostRuntime, carrier: &mut C) -> io::Result<()> {
-    show_put(rt, carrier, Role::Initiator, &[0x0B, 1, 2])?;
-    show_put(rt, carrier, Role::Initiator, &[0x10, 5, 6])?;
-    show_put(rt, carrier, Role::Initiator, &[7; 60])?;
-    show_put(rt, carrier, Role::Initiator, &[])?;
-    show_put(rt, carrier, Role::Initiator, &[7; 1086])
-}
-
-// A fetch with a buffer that is long enough.
-fn fetch_one<C: Carrier>(rt: &HostRuntime, carrier: &mut C, at: Role) -> io::Result<()> {
-    show_fetch(rt, carrier, at, &mut [0u8; GREATEST_LENGTH])
-}
-
-fn fetches<C: Carrier>(rt: &HostRuntime, carrier: &mut C) -> io::Result<()> {
+fn fetches<C: Carrier>(shown: &mut Shown<'_, C>) -> io::Result<()> {
     for _turn in 0..8u8 {
-        fetch_one(rt, carrier, Role::Responder)?;
+        shown.fetch(Role::Responder)?;
     }
-    fetch_one(rt, carrier, Role::Initiator)?;
-    show_fetch(rt, carrier, Role::Responder, &mut [0u8; 1084])
+    shown.fetch(Role::Initiator)?;
+    shown.fetch_into(Role::Responder, &mut [0u8; 1084])
 }
 
 fn main(rt: HostRuntime) -> io::Result<()> {
-    let mut pair = new_pair(rt.alloc())?;
-    let largest = pair.max_len();
-    println!(rt; "largest length {largest}")?;
-    puts(&rt, &mut pair)?;
-    fetches(&rt, &mut pair)?;
+    let mut shown = Shown::new(&rt, new_pair(rt.alloc())?);
+    shown.largest()?;
+    puts(&mut shown)?;
+    fetches(&mut shown)?;
     packed::show(&rt)
 }
