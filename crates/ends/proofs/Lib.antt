@@ -1,4 +1,3 @@
-pub mod Arriving
 pub mod Laying
 pub mod Calling
 pub mod Keeping

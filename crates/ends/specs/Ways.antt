@@ -146,49 +146,30 @@ later_way v count st word s (ar rb) = fetch.Releases reason.UnexpectedFrame
 later_way v count st word s (di towards codes) = fetch.LeftByFar codes
 later_way v count st word s (dt towards telegram code) = data_way v count st word s telegram
 
--- before it: the one frame awaited, which `way` judges by its number, else a release
-abbrev pub on_au1 : (ℕ → FetchWay) → FetchWay → FrameValue → FetchWay
-on_au1 way else bare_di = fetch.LeftByFar bare_codes
-on_au1 way else (au1 rb) = way rb
-on_au1 way else (au2 mix) = else
-on_au1 way else (au3 mix) = else
-on_au1 way else (ar rb) = else
-on_au1 way else (di towards codes) = fetch.LeftByFar codes
-on_au1 way else (dt towards telegram code) = else
-
-abbrev pub on_au2 : (ℕ → FetchWay) → FetchWay → FrameValue → FetchWay
-on_au2 way else bare_di = fetch.LeftByFar bare_codes
-on_au2 way else (au1 rb) = else
-on_au2 way else (au2 mix) = way mix
-on_au2 way else (au3 mix) = else
-on_au2 way else (ar rb) = else
-on_au2 way else (di towards codes) = fetch.LeftByFar codes
-on_au2 way else (dt towards telegram code) = else
-
-abbrev pub on_au3 : (ℕ → FetchWay) → FetchWay → FrameValue → FetchWay
-on_au3 way else bare_di = fetch.LeftByFar bare_codes
-on_au3 way else (au1 rb) = else
-on_au3 way else (au2 mix) = else
-on_au3 way else (au3 mix) = way mix
-on_au3 way else (ar rb) = else
-on_au3 way else (di towards codes) = fetch.LeftByFar codes
-on_au3 way else (dt towards telegram code) = else
-
-abbrev pub on_ar : (ℕ → FetchWay) → FetchWay → FrameValue → FetchWay
-on_ar way else bare_di = fetch.LeftByFar bare_codes
-on_ar way else (au1 rb) = else
-on_ar way else (au2 mix) = else
-on_ar way else (au3 mix) = else
-on_ar way else (ar rb) = way rb
-on_ar way else (di towards codes) = fetch.LeftByFar codes
-on_ar way else (dt towards telegram code) = else
+-- before it: what each frame of the opening gets by its number, and what a data frame gets; a release has always been heard
+abbrev pub on_opening : (by-au1 by-au2 by-au3 by-ar : ℕ → FetchWay) → FetchWay → FrameValue → FetchWay
+on_opening by-au1 by-au2 by-au3 by-ar else bare_di = fetch.LeftByFar bare_codes
+on_opening by-au1 by-au2 by-au3 by-ar else (au1 rb) = by-au1 rb
+on_opening by-au1 by-au2 by-au3 by-ar else (au2 mix) = by-au2 mix
+on_opening by-au1 by-au2 by-au3 by-ar else (au3 mix) = by-au3 mix
+on_opening by-au1 by-au2 by-au3 by-ar else (ar rb) = by-ar rb
+on_opening by-au1 by-au2 by-au3 by-ar else (di towards codes) = fetch.LeftByFar codes
+on_opening by-au1 by-au2 by-au3 by-ar else (dt towards telegram code) = else
 
 -- the table of state and arriving frame
 abbrev pub frame_way : Values → ℕ → State → List ℕ → FrameValue → FetchWay
-frame_way v count (state.Listen ra) s f = on_au1 (λ rb. fetch.AnswersAu1 rb) fetch.Drops f
-frame_way v count (state.WaitAu2 rb rc) s f = on_au2 (λ mix. fetch.AnswersAu2 (bit_xor mix rb)) (fetch.Releases reason.NotAu2) f
-frame_way v count (state.WaitAu3 ra rb) s f = on_au3 (λ mix. fetch.AnswersAu3 (bit_xor mix ra)) (fetch.Releases reason.NotAu3) f
-frame_way v count (state.WaitAr ra rb rc) s f = on_ar (λ n. cond (n == rb) fetch.AnswersAr (fetch.Releases reason.WrongSession)) (fetch.Releases reason.NotAr) f
+frame_way v count (state.Listen ra) s f =
+    let no = λ (n : ℕ). fetch.Drops in
+    on_opening (λ rb. fetch.AnswersAu1 rb) no no no fetch.Drops f
+frame_way v count (state.WaitAu2 rb rc) s f =
+    let no = λ (n : ℕ). fetch.Releases reason.NotAu2 in
+    on_opening no (λ mix. fetch.AnswersAu2 (bit_xor mix rb)) no no (fetch.Releases reason.NotAu2) f
+frame_way v count (state.WaitAu3 ra rb) s f =
+    let no = λ (n : ℕ). fetch.Releases reason.NotAu3 in
+    on_opening no no (λ mix. fetch.AnswersAu3 (bit_xor mix ra)) no (fetch.Releases reason.NotAu3) f
+frame_way v count (state.WaitAr ra rb rc) s f =
+    let no = λ (n : ℕ). fetch.Releases reason.NotAr in
+    on_opening no no no (λ n. cond (n == rb) fetch.AnswersAr (fetch.Releases reason.WrongSession)) (fetch.Releases reason.NotAr) f
 frame_way v count (state.WaitEc words) s f = later_way v count (state.WaitEc words) words.read s f
 frame_way v count (state.WaitFirst words last synced) s f = later_way v count (state.WaitFirst words last synced) words.read s f
 frame_way v count (state.Up words sent last synced) s f = later_way v count (state.Up words sent last synced) words.read s f

@@ -7,7 +7,6 @@ ghost use Rattle.codec.specs.Sealing.{sealed};
 ghost use Rattle.codec.specs.Telegrams.{telegram_bytes, content_bytes, content_value};
 ghost use Rattle.ends.specs.Ends.{end_value};
 ghost use Rattle.ends.specs.Puts.{longest_frame, put_length, put_into};
-ghost use Rattle.ends.specs.Calls.{opening_put};
 ghost use Rattle.ends.specs.Effects.{risen, Room, Numbered, release_frame, start_frame, ack_frame, sent_frame, tick_put, answer_up, fetch_put, put_telegram, put_opening};
 
 use super::end::End;
@@ -27,23 +26,12 @@ use terms::role::Role;
 pub(crate) type FrameBuffer = [u8; LONGEST_FRAME];
 
 // Lays a frame of the opening, or a release, at the start of `out`.
-fn lay_frame(frame: Frame<'_>, out: &mut FrameBuffer) -> usize
+pub(crate) fn lay_frame(frame: Frame<'_>, out: &mut FrameBuffer) -> usize
     requires { (length (bytes_of (frame_value frame)) ≤ longest_frame) × (sized (frame_value frame) ≡ true) }
     ensures value { result ≡ length (bytes_of (frame_value frame.entry)) }
     ensures after { out.new ≡ overlay (bytes_of (frame_value frame.entry)) out.old }
 {
     frame.write(out).unwrap()
-}
-
-// The frame that an opening puts, by the state in which the end begins.
-pub(crate) fn lay_first(state: State, out: &mut FrameBuffer) -> Option<usize>
-    ensures value { result ≡ put_length (opening_put state) }
-    ensures after { out.new ≡ put_into (opening_put state) out.old }
-{
-    match state {
-        State::WaitAu2 { rb, .. } => Some(lay_frame(Frame::Au1 { rb }, out)),
-        _ => None,
-    }
 }
 
 impl End {
@@ -59,6 +47,7 @@ impl End {
     }
 
     // A data frame towards the far end, sealed with the word.
+    #[tactic(auto, using(crate::proofs::Laying::finds_place))]
     fn lay_data(
         &self,
         word: SafetyWord,
@@ -88,11 +77,12 @@ impl End {
         };
         let sn = SequenceNumber(sent.0 + 1);
         let ec = ExecutionCycle(self.ec.0 + 1);
-        if asks {
-            Some(self.lay_data(words.write, sn, ec, Content::AmReq(message), out))
+        let content = if asks {
+            Content::AmReq(message)
         } else {
-            Some(self.lay_data(words.write, sn, ec, Content::Am(message), out))
-        }
+            Content::Am(message)
+        };
+        Some(self.lay_data(words.write, sn, ec, content, out))
     }
 
     // The frame that a tick puts.

@@ -11,7 +11,7 @@ use super::arrival::judge;
 use super::end::End;
 use super::ways::{Exchange, FetchWay, TickWay};
 use codec::frame::Frame;
-use codec::frame_type::ReasonCodes;
+use codec::frame_type::{FrameType, ReasonCodes};
 use codec::seal::bears;
 use codec::telegram::{Content, Telegram};
 use params::values::Values;
@@ -188,7 +188,7 @@ fn is_heard(state: State, s: &[u8]) -> bool
 {
     match (state, s) {
         (State::Listen { .. }, []) => false,
-        (State::Listen { .. }, [first, ..]) => first / 2 == 1,
+        (State::Listen { .. }, [first, ..]) => FrameType::named(*first) == Some(FrameType::Au1),
         _ => true,
     }
 }

@@ -2,7 +2,8 @@
 ghost use Rattle.std.specs.Prelude.{◌≡◌};
 ghost use Rattle.terms.specs.declared.role.Role.TheVariants.{Initiator, Responder};
 ghost use Rattle.states.specs.declared.state.State.TheVariants.{WaitAu2, Listen};
-ghost use Rattle.ends.specs.Calls.{opened};
+ghost use Rattle.ends.specs.Calls.{opened, opening_put};
+ghost use Rattle.ends.specs.Puts.{put_length, put_into};
 ghost use Rattle.ends.specs.Openings.{handed_back, OpensAs};
 ghost use Rattle.ends.specs.Ends.{end_value};
 ghost use Rattle.ends.specs.Steps.{OpeningStep};
@@ -10,10 +11,11 @@ ghost use Rattle.ends.specs.Steps.{OpeningStep};
 use super::answer::Answer;
 use super::calls::{put, takes_frames};
 use super::end::End;
-use super::frames::lay_first;
+use super::frames::{FrameBuffer, lay_frame};
 use super::sealed::Sealed;
 use super::session::{SessionNumber, SessionNumbers, StopToken};
 use carrier::Carrier;
+use codec::frame::Frame;
 use params::params::Params;
 use states::state::State;
 use terms::counters::Ticks;
@@ -94,6 +96,17 @@ fn first(params: Params, role: Role, state: State) -> End
         ec,
         count: Ticks(0),
         state,
+    }
+}
+
+// Lays the frame of an end's first state, if that has one.
+fn lay_first(state: State, out: &mut FrameBuffer) -> Option<usize>
+    ensures value { result ≡ put_length (opening_put state) }
+    ensures after { out.new ≡ put_into (opening_put state) out.old }
+{
+    match state {
+        State::WaitAu2 { rb, .. } => Some(lay_frame(Frame::Au1 { rb }, out)),
+        _ => None,
     }
 }
 
