@@ -35,7 +35,7 @@ use Rattle.ends.specs.declared.ways.FetchWay.{FetchWay}
 use Rattle.ends.specs.declared.ways.FetchWay.TheVariants as fetch
 use Rattle.states.specs.States.{EndValue}
 use Rattle.ends.specs.Arrivals.{arrival, typed_arrival, judged_frame}
-use Rattle.ends.specs.Ways.{age, timely, numbered, aged, taken, stray, exchange_way, start_way, telegram_way, read_way, same_word, later_way, on_au1, on_au2, on_au3, on_ar, frame_way, arrival_way, heard, fetch_way}
+use Rattle.ends.specs.Ways.{age, timely, numbered, aged, taken, stray, exchange_way, start_way, telegram_way, read_way, same_word, later_way, on_opening, frame_way, arrival_way, heard, fetch_way}
 use Rattle.link.specs.Law.{message_in, Carries}
 
 -- ---- tests
@@ -364,45 +364,17 @@ home (state.Out release) = 0
 Goes : ℕ → FetchWay → Type 0
 Goes k w = (origin w ≡ 0) ⊎ (origin w ≡ k)
 
-goes_au1 : (way : ℕ → FetchWay) (else : FetchWay) (k : ℕ) → ((n : ℕ) → Goes k (way n)) → Goes k else → (f : FrameValue) → Goes k (on_au1 way else f)
+goes_opening : (by-au1 by-au2 by-au3 by-ar : ℕ → FetchWay) (else : FetchWay) (k : ℕ)
+    → ((n : ℕ) → Goes k (by-au1 n)) → ((n : ℕ) → Goes k (by-au2 n)) → ((n : ℕ) → Goes k (by-au3 n)) → ((n : ℕ) → Goes k (by-ar n)) → Goes k else
+    → (f : FrameValue) → Goes k (on_opening by-au1 by-au2 by-au3 by-ar else f)
 unfolding Goes origin
-goes_au1 way else k a b bare_di = inl refl
-goes_au1 way else k a b (au1 n) = a n
-goes_au1 way else k a b (au2 n) = b
-goes_au1 way else k a b (au3 n) = b
-goes_au1 way else k a b (ar n) = b
-goes_au1 way else k a b (di towards codes) = inl refl
-goes_au1 way else k a b (dt towards telegram code) = b
-
-goes_au2 : (way : ℕ → FetchWay) (else : FetchWay) (k : ℕ) → ((n : ℕ) → Goes k (way n)) → Goes k else → (f : FrameValue) → Goes k (on_au2 way else f)
-unfolding Goes origin
-goes_au2 way else k a b bare_di = inl refl
-goes_au2 way else k a b (au1 n) = b
-goes_au2 way else k a b (au2 n) = a n
-goes_au2 way else k a b (au3 n) = b
-goes_au2 way else k a b (ar n) = b
-goes_au2 way else k a b (di towards codes) = inl refl
-goes_au2 way else k a b (dt towards telegram code) = b
-
-goes_au3 : (way : ℕ → FetchWay) (else : FetchWay) (k : ℕ) → ((n : ℕ) → Goes k (way n)) → Goes k else → (f : FrameValue) → Goes k (on_au3 way else f)
-unfolding Goes origin
-goes_au3 way else k a b bare_di = inl refl
-goes_au3 way else k a b (au1 n) = b
-goes_au3 way else k a b (au2 n) = b
-goes_au3 way else k a b (au3 n) = a n
-goes_au3 way else k a b (ar n) = b
-goes_au3 way else k a b (di towards codes) = inl refl
-goes_au3 way else k a b (dt towards telegram code) = b
-
-goes_ar : (way : ℕ → FetchWay) (else : FetchWay) (k : ℕ) → ((n : ℕ) → Goes k (way n)) → Goes k else → (f : FrameValue) → Goes k (on_ar way else f)
-unfolding Goes origin
-goes_ar way else k a b bare_di = inl refl
-goes_ar way else k a b (au1 n) = b
-goes_ar way else k a b (au2 n) = b
-goes_ar way else k a b (au3 n) = b
-goes_ar way else k a b (ar n) = a n
-goes_ar way else k a b (di towards codes) = inl refl
-goes_ar way else k a b (dt towards telegram code) = b
+goes_opening by-au1 by-au2 by-au3 by-ar else k a b c d e bare_di = inl refl
+goes_opening by-au1 by-au2 by-au3 by-ar else k a b c d e (au1 n) = a n
+goes_opening by-au1 by-au2 by-au3 by-ar else k a b c d e (au2 n) = b n
+goes_opening by-au1 by-au2 by-au3 by-ar else k a b c d e (au3 n) = c n
+goes_opening by-au1 by-au2 by-au3 by-ar else k a b c d e (ar n) = d n
+goes_opening by-au1 by-au2 by-au3 by-ar else k a b c d e (di towards codes) = inl refl
+goes_opening by-au1 by-au2 by-au3 by-ar else k a b c d e (dt towards telegram code) = e
 
 goes_read : (v : Values) (count : ℕ) (st : State) (k : ℕ) → ((t : TelegramValue) → Goes k (telegram_way v count st t)) → (r : Result TelegramValue Refusal) → Goes k (read_way v count st r)
 unfolding Goes origin
@@ -454,10 +426,10 @@ goes_exchange v count due last synced t (other type-byte body) = goes_stray type
 
 goes_home : (v : Values) (count : ℕ) (st : State) (x : List ℕ) (f : FrameValue) → Goes (home st) (frame_way v count st x f)
 unfolding Goes origin home
-goes_home v count (state.WaitAu2 rb rc) x f = goes_au2 _ _ 2 (λ n. inr refl) (inl refl) f
-goes_home v count (state.WaitAr ra rb rc) x f = goes_ar _ _ 4 (λ n. cond_both (eqb n rb) _ _ (Goes 4) (λ _. inr refl) (λ _. inl refl)) (inl refl) f
-goes_home v count (state.Listen ra) x f = goes_au1 _ _ 1 (λ n. inr refl) (inl refl) f
-goes_home v count (state.WaitAu3 ra rb) x f = goes_au3 _ _ 3 (λ n. inr refl) (inl refl) f
+goes_home v count (state.WaitAu2 rb rc) x f = goes_opening _ _ _ _ _ 2 (λ n. inl refl) (λ n. inr refl) (λ n. inl refl) (λ n. inl refl) (inl refl) f
+goes_home v count (state.WaitAr ra rb rc) x f = goes_opening _ _ _ _ _ 4 (λ n. inl refl) (λ n. inl refl) (λ n. inl refl) (λ n. cond_both (eqb n rb) _ _ (Goes 4) (λ _. inr refl) (λ _. inl refl)) (inl refl) f
+goes_home v count (state.Listen ra) x f = goes_opening _ _ _ _ _ 1 (λ n. inr refl) (λ n. inl refl) (λ n. inl refl) (λ n. inl refl) (inl refl) f
+goes_home v count (state.WaitAu3 ra rb) x f = goes_opening _ _ _ _ _ 3 (λ n. inl refl) (λ n. inl refl) (λ n. inr refl) (λ n. inl refl) (inl refl) f
 goes_home v count (state.WaitEc words) x f = goes_later v count (state.WaitEc words) 5 (λ t. goes_start v t t.content) words.read x f
 goes_home v count (state.WaitFirst words last synced) x f =
     goes_later v count (state.WaitFirst words last synced) 6 (λ t. goes_exchange v count false last synced t t.content) words.read x f
