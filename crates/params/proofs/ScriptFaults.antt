@@ -18,6 +18,7 @@ use Rattle.params.specs.declared.call.Action.{Action}
 use Rattle.params.specs.Calls.{Said, Answers, ScriptError}
 use Rattle.params.specs.FirstFault.{by_fault_first, verdict, call_columns, past_lines, FirstInScript}
 use Rattle.params.specs.Scripts.{read_role, read_deed, read_text, read_values, read_call, read_calls, ahead, script_names, read_script}
+use Rattle.params.proofs.Outcomes.{ended_by, named_by}
 
 -- the values before column n of a line are good
 abbrev GoodValues : List ℕ → ℕ → Type 0
@@ -71,9 +72,6 @@ values_law line = counted_law line (eqb (count_of 32 line) 2) _ (role_law line (
 placed_law : {T : Type 0} (n : ℕ) (line : List ℕ) (r : Result T LineFault) → ValuesLaw line r → CallLaw n line (on_line r Script n)
 placed_law n line (Ok x) l = tt
 placed_law n line (Err e) l = (refl, refl, l)
-
-abbrev ended_by : Bool → Result (Unit {0}) LineFault
-ended_by b = cond b (Err (whole_line WrongCount)) (Ok tt)
 
 end_law : (n : ℕ) (line : List ℕ) (b : Bool) (r : Result Said FileFault) → CallLaw n line r → CallLaw n line (then (on_line (ended_by b) Script n) (λ _. r))
 end_law n line true r h = (refl, refl, none line 0 (omega arith))
@@ -132,9 +130,6 @@ calls_law (suc k) n t =
 abbrev pub ScriptLaw : {T : Type 0} → List ℕ → Result T FileFault → Type 0
 ScriptLaw text (Ok x) = Unit {0}
 ScriptLaw text (Err f) = FirstInScript text f
-
-abbrev named_by : Bool → Bool → Result (Unit {0}) LineFault
-named_by b c = cond b (Err (whole_line NamesDiffer)) (cond c (Ok tt) (Err (whole_line NamesDiffer)))
 
 not_named : (text : List ℕ) → FirstInScript text record { fault = NamesDiffer; file = Script; line = 1; column = 0 }
 not_named text = record { file = refl; names = λ z. absurd (omega arith); earlier = λ k low high. absurd (omega arith); values = λ k low high. absurd (omega arith) }

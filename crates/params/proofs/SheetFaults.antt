@@ -6,7 +6,7 @@ use Rattle.terms.specs.Outcomes.{then}
 use Rattle.terms.specs.declared.role.Role.{Role}
 use Rattle.terms.specs.declared.role.Role.TheVariants.{Initiator, Responder}
 use Rattle.texts.specs.declared.columns.Column.{Column}
-use Rattle.texts.specs.declared.fault.Fault.TheVariants.{WrongCount, NamesDiffer, DifferingBits}
+use Rattle.texts.specs.declared.fault.Fault.TheVariants.{WrongCount, DifferingBits}
 use Rattle.texts.specs.declared.fault.File.TheVariants.{Sheet}
 use Rattle.texts.specs.declared.fault.LineFault.{LineFault}
 use Rattle.texts.specs.declared.fault.FileFault.{FileFault}
@@ -23,7 +23,7 @@ use Rattle.params.specs.Columns.{names, differing, distance, versions, periods, 
 use Rattle.params.specs.FirstFault.{GoodBefore, FirstInLine, from_line, good_lines, role_of, not_names, not_ended, one_more, in_line, FirstFault}
 use Rattle.params.specs.Lines.{read_values, read_line}
 use Rattle.params.specs.Sheets.{read_row, read_rows, read_sheet}
-use Rattle.params.proofs.Outcomes.{at_parts}
+use Rattle.params.proofs.Outcomes.{ended_by, named_by, at_parts}
 use Rattle.params.proofs.LineFaults.{Firsts, steps, values_first}
 use Rattle.params.proofs.LineValues.{ColumnsRead, values_were}
 use Rattle.params.proofs.LineRead.{kept_at, below_kept}
@@ -87,13 +87,6 @@ RowLaw role n t (Err f) = RowFault role n t f
 line_law : (role : Role) (n : ℕ) (t : List ℕ) (r : Result Values LineFault) → Firsts role (before 10 t) 16 r → RowLaw role n t (on_line r Sheet n)
 line_law role n t (Ok v) h = tt
 line_law role n t (Err f) h = (refl, refl, inr h)
-
--- the end of a line, and the line of names, by the tests that they make
-abbrev ended_by : Bool → Result (Unit {0}) LineFault
-ended_by b = cond b (Err (whole_line WrongCount)) (Ok tt)
-
-abbrev named_by : Bool → Bool → Result (Unit {0}) LineFault
-named_by b c = cond b (Err (whole_line NamesDiffer)) (cond c (Ok tt) (Err (whole_line NamesDiffer)))
 
 end_law : (role : Role) (n : ℕ) (t : List ℕ) (b : Bool) (r : Result Values FileFault) → eqb (count_of 10 t) 0 ≡ b → RowLaw role n t r
     → RowLaw role n t (then (on_line (ended_by b) Sheet n) (λ _. r))

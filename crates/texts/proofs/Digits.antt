@@ -1,5 +1,5 @@
 -- Laws of the values of a line, as the loops and calls use them.
-use Rattle.std.proofs.Common.{◌≡◌, ℕ, ◌+◌, ◌-◌, ◌*◌, ◌^◌, ◌<◌, ◌≤◌, min, true, ◌&&◌, ◌⊎◌, List, [], ◌∷◌, length, get_or, drop, pos, neg_ℤ, Ok, Err, sym, refl, ap, ◌∙◌, subst, lt_of_lt_of_le, pow-suc, add-one, arith}
+use Rattle.std.proofs.Common.{◌≡◌, ℕ, ◌+◌, ◌-◌, ◌*◌, ◌^◌, ◌<◌, ◌≤◌, min, ◌&&◌, List, [], ◌∷◌, length, get_or, drop, Ok, Err, sym, refl, ap, ◌∙◌, subst, lt_of_lt_of_le, pow-suc, add-one, arith}
 use Rattle.std.proofs.lemmas.List.Recursion.{same_from_clauses}
 use Rattle.std.specs.Char.{is_ascii_digit, is_ascii_graphic}
 use Rattle.std.specs.List.{list_all, fold}
@@ -10,9 +10,8 @@ use Rattle.std.proofs.lemmas.Bool.{cond-true, eq-eqb}
 use Rattle.std.proofs.lemmas.Bool.Decides.{nat_tests}
 use Rattle.terms.specs.Outcomes.{then}
 use Rattle.texts.specs.declared.fault.Fault.{Fault}
-use Rattle.texts.specs.declared.fault.Fault.TheVariants.{OutOfRange}
 use Rattle.texts.specs.declared.numbers.Range.{Range}
-use Rattle.texts.specs.Numbers.{digits, is_number, value_of, read_number, read_digit, hex_on, read_hex, read_below}
+use Rattle.texts.specs.Numbers.{digits, value_of, read_number, read_digit, hex_on, read_hex}
 
 pub digits_law : (s : List ℕ) → list_all is_ascii_digit s ≡ digits s
 digits_law = same_from_clauses (list_all is_ascii_digit) digits (λ b r. is_ascii_digit b && r) refl (λ _ _. refl) (λ _ _. refl)
@@ -34,12 +33,6 @@ value_on (b ∷ s) v = ap (λ n. fold saturated n s) (one_more v b) ∙ value_on
 pub value_law : (s : List ℕ) → fold saturated 0 s ≡ min (value_of 0 s) (2 ^ 64 - 1)
 value_law s = value_on s 0
 
-pub out_of : (s : List ℕ) (r : Range) → is_number s ≡ true → (value_of 0 s < r.low) ⊎ (r.high < value_of 0 s) → Err OutOfRange ≡ read_number r s
-out_of s r e o = grind (arith, nat_tests)
-
-pub inside : (s : List ℕ) (r : Range) (n : ℕ) → is_number s ≡ true → n ≡ value_of 0 s → r.low ≤ n → n ≤ r.high → Ok n ≡ read_number r s
-inside s r n e v a b = grind (arith, nat_tests)
-
 pub number_in : (s : List ℕ) (r : Range) (n : ℕ) → read_number r s ≡ Ok n → (r.low ≤ n) × (n ≤ r.high)
 number_in s r n e = grind (arith, nat_tests)
 
@@ -58,6 +51,3 @@ hex_more n i d h k = subst (λ u. n * 16 + d < u) (sym (ap (λ j. 16 ^ j) (add-o
 
 pub hex_room : (n i : ℕ) → n < 16 ^ i → i < 8 → n < 2 ^ 28
 hex_room n i h k = lt_of_lt_of_le h (pow-le-pow_right {n = 16} (omega arith) (let j : i ≤ 7 = omega arith in j))
-
-pub below_is : (s : List ℕ) (r : Range) → get_or s 0 0 ≡ 45 → read_below r s ≡ then (read_number r (drop 1 s)) (λ n. Ok (neg_ℤ (pos n)))
-below_is s r e = cond-true _ _ _ (eq-eqb (get_or s 0 0) 45 e)

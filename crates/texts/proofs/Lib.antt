@@ -1,6 +1,5 @@
 pub mod Cuts
 pub mod Digits
-pub mod Glyphs
 pub mod Joins
 pub mod Trips
 pub mod HexTrips
