@@ -145,6 +145,7 @@ impl<N: Carrier, R: Carrier> RedundantPair<N, R> {
         ensures asked { AskedInTurn (self.new.redundant ≡ self.old.redundant) (λ b a b'. FetchRules (N.Carrier.meaning self.old.normal) (N.Carrier.meaning self.new.normal) at b b' a × N.Carrier.fetching self.old.normal at b a b' self.new.normal) (λ b a b'. FetchRules (R.Carrier.meaning self.old.redundant) (R.Carrier.meaning self.new.redundant) at b b' a × R.Carrier.fetching self.old.redundant at b a b' self.new.redundant) last buf.old buf.new result }
         ensures counters { self.new.counters ≡ self.old.counters }
     {
+        // No `or_else`: where its closure is not called, no proof has it that the redundant carrier is the same.
         match fetch_frame(&mut self.normal, at, last, buf) {
             None => fetch_frame(&mut self.redundant, at, last, buf),
             taken @ Some(_) => taken,
@@ -178,6 +179,7 @@ impl<N: Carrier, R: Carrier> Carrier for RedundantPair<N, R> {
             return Err(Refusal::BufferTooShort);
         }
         let last = self.counters.at(at).last;
+        // No `map`, since its closure would change the counters, as above.
         let Some(Taken { number, len }) = self.fetch_either(at, last, &mut buf[..most]) else {
             return Ok(None);
         };

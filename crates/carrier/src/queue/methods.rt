@@ -107,6 +107,7 @@ impl Queue {
         ensures within { result.end ≤ self.now.used }
     {
         let memory = self.memory.as_slice();
+        // No `fold`: each call of its closure would owe anew that a start lies within the memory, which the loop keeps as its invariant.
         let mut start = 0;
         for _i in 0..k {
             start = end_of(memory, start);

@@ -15,7 +15,7 @@ use Rattle.pair.proofs.RedundantPairCarrier.put.Goals as goal
 
 -- the packet of a short frame is read as it was put
 own : (q : PacketValue) (cable : Cable) → q.number < 2 ^ 16 → length q.frame + packet_overhead ≤ greatest_length → read_packet (packet_bytes q cable) ≡ Ok q
-own q cable n short = read_writing q (packet_bytes q cable) (packet_writing q cable n (omega (arith, within q cable (replicate greatest_length 0) short refl)))
+own q cable n short = read_writing q (packet_bytes q cable) (packet_writing q cable n (omega (arith, within q cable short)))
 
 pub returns-clause-rules : goal.returns-clause-rules
 returns-clause-rules g c =
