@@ -21,25 +21,12 @@ wrong_flag Responder = reason.FlagSet
 -- the fixed bytes of an AU1, or of an AU2, differ
 abbrev pub wrong_fixed : FrameType → Reason
 wrong_fixed type.Au1 = reason.Au1Fixed
-wrong_fixed type.Au2 = reason.Malformed
-wrong_fixed type.Au3 = reason.Malformed
-wrong_fixed type.Dt = reason.Malformed
-wrong_fixed type.Di = reason.Malformed
-wrong_fixed type.Ar = reason.Malformed
+wrong_fixed _ = reason.Malformed
 
 -- what a refusal of the frame reader is to an end: the length does not suit, or else the fixed bytes differ
 abbrev pub refused_frame : FrameType → Refusal → Reason
-refused_frame t refusal.CarrierTooNarrow = wrong_fixed t
-refused_frame t refusal.BufferTooShort = wrong_fixed t
-refused_frame t refusal.EndIsOut = wrong_fixed t
-refused_frame t refusal.MessageTooLong = wrong_fixed t
-refused_frame t refusal.EndNotUp = wrong_fixed t
-refused_frame t refusal.StringTooLong = wrong_fixed t
-refused_frame t refusal.PacketLength = wrong_fixed t
-refused_frame t refusal.PacketType = wrong_fixed t
-refused_frame t refusal.FrameType = wrong_fixed t
 refused_frame t refusal.FrameLength = reason.WrongLength t
-refused_frame t refusal.FrameFixed = wrong_fixed t
+refused_frame t _ = wrong_fixed t
 
 abbrev pub judged_frame : FrameType → Result FrameValue Refusal → Result FrameValue Reason
 judged_frame t (Ok f) = Ok f

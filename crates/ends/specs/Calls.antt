@@ -24,14 +24,8 @@ use Rattle.ends.specs.Puts.{longest_frame, put_length, put_into}
 
 -- an end that is out
 abbrev pub out_refusal : State → Option Refusal
-out_refusal (state.WaitAu2 rb rc) = None
-out_refusal (state.WaitAr ra rb rc) = None
-out_refusal (state.Listen ra) = None
-out_refusal (state.WaitAu3 ra rb) = None
-out_refusal (state.WaitEc words) = None
-out_refusal (state.WaitFirst words last synced) = None
-out_refusal (state.Up words sent last synced) = None
 out_refusal (state.Out release) = Some refusal.EndIsOut
+out_refusal _ = None
 
 -- first the carrier, then the buffers, which have room or not, then the end
 abbrev pub call_refusal : ℕ → Bool → Option Refusal → Option Refusal
@@ -163,13 +157,7 @@ opened v role st = record { values = v; role = role; ec = v.ec; count = record {
 -- the initiator puts AU1, the responder nothing
 abbrev pub opening_put : State → Option (List ℕ)
 opening_put (state.WaitAu2 rb rc) = Some (bytes_of (au1 rb))
-opening_put (state.WaitAr ra rb rc) = None
-opening_put (state.Listen ra) = None
-opening_put (state.WaitAu3 ra rb) = None
-opening_put (state.WaitEc words) = None
-opening_put (state.WaitFirst words last synced) = None
-opening_put (state.Up words sent last synced) = None
-opening_put (state.Out release) = None
+opening_put _ = None
 
 -- an opening that was not refused
 pub record Opens (e : EndValue) (v : Values) (role : Role) (first : State) (m m' : Meaning) (out out' : List ℕ) (r : Answer) : Type 0 where

@@ -78,11 +78,8 @@ Numbered st = in_up_fact (λ sent. sent.0 < greatest) st
 
 -- a way that sends finds it
 abbrev pub SendsRoom : State → TickWay → Type 0
-SendsRoom st tick.UsedUp = Unit {0}
-SendsRoom st tick.Abandons = Unit {0}
-SendsRoom st (tick.Releases r) = Unit {0}
-SendsRoom st tick.Silent = Unit {0}
 SendsRoom st (tick.Sends asks) = Numbered st
+SendsRoom st _ = Unit {0}
 
 -- a tick that raises EC finds a next value, and one that sends a next number
 abbrev pub Room : EndValue → TickWay → Type 0
@@ -146,9 +143,8 @@ heard_start e sn ec st = in_wait_ec (λ words. restarted e (started e.role words
 
 -- an AM+ACK goes out for AM+REQ
 abbrev pub after_first : Exchange → ℕ
-after_first exchange.Am = 0
 after_first exchange.Req = 1
-after_first exchange.Ack = 0
+after_first _ = 0
 
 -- accepted in up: AM+ACK sets the expectation; AM+REQ is answered, or has no number left for that
 abbrev pub taken_up : EndValue → Words → SequenceNumber → ExecutionCycle → SequenceNumber → ExecutionCycle → Exchange → EndValue
@@ -175,14 +171,12 @@ after_fetch e (fetch.Takes kind sn ec) = heard_telegram e kind sn ec e.state
 
 -- AM+ACK for an AM+REQ, or the release where no number is left
 abbrev pub answer_up : EndValue → SafetyWord → SequenceNumber → Exchange → Option (List ℕ)
-answer_up e word sent exchange.Am = None
 answer_up e word sent exchange.Req = Some (cond (sent.0 == greatest) (release_frame e reason.CounterUsedUp) (ack_frame e word (sent.0 + 1)))
-answer_up e word sent exchange.Ack = None
+answer_up e word sent _ = None
 
 abbrev pub answer_first : EndValue → SafetyWord → Exchange → Option (List ℕ)
-answer_first e word exchange.Am = None
 answer_first e word exchange.Req = Some (ack_frame e word 1)
-answer_first e word exchange.Ack = None
+answer_first e word _ = None
 
 abbrev pub put_telegram : EndValue → Exchange → State → Option (List ℕ)
 put_telegram e kind st =
@@ -208,15 +202,10 @@ put_first_start e st = in_wait_ar (λ ra rb rc. Some (start_frame e (words_by e.
 
 -- the frames of the opening
 abbrev pub put_opening : EndValue → FetchWay → Option (List ℕ)
-put_opening e fetch.Drops = None
-put_opening e (fetch.LeftByFar codes) = None
-put_opening e (fetch.Releases r) = None
 put_opening e (fetch.AnswersAu1 rb) = put_au2 rb e.state
 put_opening e (fetch.AnswersAu2 ra) = put_au3 ra e.state
 put_opening e (fetch.AnswersAu3 rc) = put_ar e.state
-put_opening e fetch.AnswersAr = None
-put_opening e (fetch.Starts sn ec) = None
-put_opening e (fetch.Takes kind sn ec) = None
+put_opening e _ = None
 
 abbrev pub fetch_put : EndValue → FetchWay → Option (List ℕ)
 fetch_put e fetch.Drops = None
@@ -234,12 +223,5 @@ abbrev pub message_place : ℕ → Option Place
 message_place n = cond (nat_lt 18 n) (Some record { from = 10; to = n - 8 }) None
 
 abbrev pub delivers : FetchWay → ℕ → Option Place
-delivers fetch.Drops n = None
-delivers (fetch.LeftByFar codes) n = None
-delivers (fetch.Releases r) n = None
-delivers (fetch.AnswersAu1 rb) n = None
-delivers (fetch.AnswersAu2 ra) n = None
-delivers (fetch.AnswersAu3 rc) n = None
-delivers fetch.AnswersAr n = None
-delivers (fetch.Starts sn ec) n = None
 delivers (fetch.Takes kind sn ec) n = message_place n
+delivers _ n = None

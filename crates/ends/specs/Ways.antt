@@ -106,20 +106,14 @@ start_way v t (ec_start version period) =
     cond (version == v.version)
     (cond (period == v.period.0) (fetch.Starts record { 0 = t.sn } record { 0 = t.ec }) (fetch.Releases reason.WrongPeriod))
     (fetch.Releases reason.WrongVersion)
-start_way v t (am message) = fetch.Releases reason.Malformed
-start_way v t (am_req message) = fetch.Releases reason.Malformed
-start_way v t (am_ack message) = fetch.Releases reason.Malformed
 start_way v t (other type-byte body) = stray type-byte (fetch.Releases reason.Malformed)
+start_way v t _ = fetch.Releases reason.Malformed
 
 abbrev pub telegram_way : Values → ℕ → State → TelegramValue → FetchWay
-telegram_way v count (state.WaitAu2 rb rc) t = fetch.Drops
-telegram_way v count (state.WaitAr ra rb rc) t = fetch.Drops
-telegram_way v count (state.Listen ra) t = fetch.Drops
-telegram_way v count (state.WaitAu3 ra rb) t = fetch.Drops
 telegram_way v count (state.WaitEc words) t = start_way v t t.content
 telegram_way v count (state.WaitFirst words last synced) t = exchange_way v count false last synced t t.content
 telegram_way v count (state.Up words sent last synced) t = exchange_way v count (nat_le v.ask.0 count) last synced t t.content
-telegram_way v count (state.Out release) t = fetch.Drops
+telegram_way v count _ t = fetch.Drops
 
 abbrev pub read_way : Values → ℕ → State → Result TelegramValue Refusal → FetchWay
 read_way v count st (Ok t) = telegram_way v count st t
@@ -139,12 +133,9 @@ data_way v count st word s telegram = cond (same_word word (word_in (read_frame 
 -- once the data exchange has begun: only data frames
 abbrev pub later_way : Values → ℕ → State → SafetyWord → List ℕ → FrameValue → FetchWay
 later_way v count st word s bare_di = fetch.LeftByFar bare_codes
-later_way v count st word s (au1 rb) = fetch.Releases reason.UnexpectedFrame
-later_way v count st word s (au2 mix) = fetch.Releases reason.UnexpectedFrame
-later_way v count st word s (au3 mix) = fetch.Releases reason.UnexpectedFrame
-later_way v count st word s (ar rb) = fetch.Releases reason.UnexpectedFrame
 later_way v count st word s (di towards codes) = fetch.LeftByFar codes
 later_way v count st word s (dt towards telegram code) = data_way v count st word s telegram
+later_way v count st word s _ = fetch.Releases reason.UnexpectedFrame
 
 -- before it: what each frame of the opening gets by its number, and what a data frame gets; a release has always been heard
 abbrev pub on_opening : (by-au1 by-au2 by-au3 by-ar : ℕ → FetchWay) → FetchWay → FrameValue → FetchWay
@@ -182,13 +173,7 @@ arrival_way v count st s (Err r) = fetch.Releases r
 -- in listen all but the type AU1 is dropped unread
 abbrev pub heard : State → List ℕ → Bool
 heard (state.Listen ra) s = elim s [ [] ↦ false | first ∷ body ↦ nat_eq (first / 2) 1 ]
-heard (state.WaitAu2 rb rc) s = true
-heard (state.WaitAr ra rb rc) s = true
-heard (state.WaitAu3 ra rb) s = true
-heard (state.WaitEc words) s = true
-heard (state.WaitFirst words last synced) s = true
-heard (state.Up words sent last synced) s = true
-heard (state.Out release) s = true
+heard _ s = true
 
 abbrev pub fetch_way : EndValue → List ℕ → FetchWay
 fetch_way e s =

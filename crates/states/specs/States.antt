@@ -25,84 +25,36 @@ status_of (state.Out release) = status.Out release
 
 abbrev pub in_wait_au2 : {A : Type 0} → (ℕ → ℕ → A) → A → State → A
 in_wait_au2 is else (state.WaitAu2 rb rc) = is rb rc
-in_wait_au2 is else (state.WaitAr ra rb rc) = else
-in_wait_au2 is else (state.Listen ra) = else
-in_wait_au2 is else (state.WaitAu3 ra rb) = else
-in_wait_au2 is else (state.WaitEc words) = else
-in_wait_au2 is else (state.WaitFirst words last synced) = else
-in_wait_au2 is else (state.Up words sent last synced) = else
-in_wait_au2 is else (state.Out release) = else
+in_wait_au2 is else _ = else
 
 abbrev pub in_wait_ar : {A : Type 0} → (ℕ → ℕ → ℕ → A) → A → State → A
-in_wait_ar is else (state.WaitAu2 rb rc) = else
 in_wait_ar is else (state.WaitAr ra rb rc) = is ra rb rc
-in_wait_ar is else (state.Listen ra) = else
-in_wait_ar is else (state.WaitAu3 ra rb) = else
-in_wait_ar is else (state.WaitEc words) = else
-in_wait_ar is else (state.WaitFirst words last synced) = else
-in_wait_ar is else (state.Up words sent last synced) = else
-in_wait_ar is else (state.Out release) = else
+in_wait_ar is else _ = else
 
 abbrev pub in_listen : {A : Type 0} → (ℕ → A) → A → State → A
-in_listen is else (state.WaitAu2 rb rc) = else
-in_listen is else (state.WaitAr ra rb rc) = else
 in_listen is else (state.Listen ra) = is ra
-in_listen is else (state.WaitAu3 ra rb) = else
-in_listen is else (state.WaitEc words) = else
-in_listen is else (state.WaitFirst words last synced) = else
-in_listen is else (state.Up words sent last synced) = else
-in_listen is else (state.Out release) = else
+in_listen is else _ = else
 
 abbrev pub in_wait_au3 : {A : Type 0} → (ℕ → ℕ → A) → A → State → A
-in_wait_au3 is else (state.WaitAu2 rb rc) = else
-in_wait_au3 is else (state.WaitAr ra rb rc) = else
-in_wait_au3 is else (state.Listen ra) = else
 in_wait_au3 is else (state.WaitAu3 ra rb) = is ra rb
-in_wait_au3 is else (state.WaitEc words) = else
-in_wait_au3 is else (state.WaitFirst words last synced) = else
-in_wait_au3 is else (state.Up words sent last synced) = else
-in_wait_au3 is else (state.Out release) = else
+in_wait_au3 is else _ = else
 
 abbrev pub in_wait_ec : {A : Type 0} → (Words → A) → A → State → A
-in_wait_ec is else (state.WaitAu2 rb rc) = else
-in_wait_ec is else (state.WaitAr ra rb rc) = else
-in_wait_ec is else (state.Listen ra) = else
-in_wait_ec is else (state.WaitAu3 ra rb) = else
 in_wait_ec is else (state.WaitEc words) = is words
-in_wait_ec is else (state.WaitFirst words last synced) = else
-in_wait_ec is else (state.Up words sent last synced) = else
-in_wait_ec is else (state.Out release) = else
+in_wait_ec is else _ = else
 
 abbrev pub in_first : {A : Type 0} → (Words → SequenceNumber → ExecutionCycle → A) → A → State → A
-in_first is else (state.WaitAu2 rb rc) = else
-in_first is else (state.WaitAr ra rb rc) = else
-in_first is else (state.Listen ra) = else
-in_first is else (state.WaitAu3 ra rb) = else
-in_first is else (state.WaitEc words) = else
 in_first is else (state.WaitFirst words last synced) = is words last synced
-in_first is else (state.Up words sent last synced) = else
-in_first is else (state.Out release) = else
+in_first is else _ = else
 
 abbrev pub in_up : {A : Type 0} → (Words → SequenceNumber → SequenceNumber → ExecutionCycle → A) → A → State → A
-in_up is else (state.WaitAu2 rb rc) = else
-in_up is else (state.WaitAr ra rb rc) = else
-in_up is else (state.Listen ra) = else
-in_up is else (state.WaitAu3 ra rb) = else
-in_up is else (state.WaitEc words) = else
-in_up is else (state.WaitFirst words last synced) = else
 in_up is else (state.Up words sent last synced) = is words sent last synced
-in_up is else (state.Out release) = else
+in_up is else _ = else
 
 -- a fact of the last number put, in up
 abbrev pub in_up_fact : (SequenceNumber → Type 0) → State → Type 0
-in_up_fact is (state.WaitAu2 rb rc) = Unit {0}
-in_up_fact is (state.WaitAr ra rb rc) = Unit {0}
-in_up_fact is (state.Listen ra) = Unit {0}
-in_up_fact is (state.WaitAu3 ra rb) = Unit {0}
-in_up_fact is (state.WaitEc words) = Unit {0}
-in_up_fact is (state.WaitFirst words last synced) = Unit {0}
 in_up_fact is (state.Up words sent last synced) = is sent
-in_up_fact is (state.Out release) = Unit {0}
+in_up_fact is _ = Unit {0}
 
 -- an end: the values of its parameter set, its role, its execution cycle, the count of its ticks, its state
 pub record EndValue : Type 0 where

@@ -1,11 +1,10 @@
 use Rattle.std.proofs.Common.{◌≡◌, leb, length, None, refl, sym, ap, ◌∙◌, subst, rules}
 use Rattle.std.proofs.lemmas.Bool.{le-leb}
-use Rattle.ends.specs.Ends.{end_value}
 use Rattle.ends.specs.Calls.{Puts, opening_refusal, opening_put}
 use Rattle.ends.specs.Puts.{longest_frame, put_length, put_into}
 use Rattle.states.specs.States.{status_of}
 use Rattle.ends.specs.Steps.{PutStep, OpeningStepped}
-use Rattle.ends.proofs.Calling.{Laid, laid_in, last_refusal}
+use Rattle.ends.proofs.Calling.{laid_in, last_refusal}
 use Rattle.ends.proofs.opening.try_open.Goals as goal
 
 pub put-requires : goal.put-requires

@@ -1,4 +1,4 @@
-use Rattle.std.proofs.Common.{◌≡◌, leb, List, ◌++◌, length, drop, Some, None, Err, Option, refl, sym, ap, ◌∙◌, subst, ap₂, rules}
+use Rattle.std.proofs.Common.{◌≡◌, leb, List, ◌++◌, length, drop, Some, None, Err, Option, refl, sym, ap, ◌∙◌, subst, ap₂}
 use Rattle.std.proofs.lemmas.Bool.{le-leb}
 use Rattle.terms.specs.declared.role.Role.{Role}
 use Rattle.ends.specs.Ends.{end_value}
