@@ -21,7 +21,7 @@ use states::state::{State, Words};
 use terms::counters::{ExecutionCycle, SequenceNumber, Ticks};
 use terms::role::Role;
 
-// A way out where the count is above a limit.
+// A way out where the count is above a limit. No closure for the way: it is a small value, made without effect.
 fn limit(limit: Ticks, count: u64, way: TickWay) -> TickWay
     ensures value { result ≡ limited limit.0 count way }
     ensures room { (st : State) → SendsRoom st way → SendsRoom st result }
