@@ -2,26 +2,23 @@
 // `?` is for a packet that is longer than any carrier takes.
 use codec::frame::Frame;
 use packets::packet::{Cable, Packet};
+use terms::refusal::Refusal;
 
 // The longest string that any carrier takes.
 const LONGEST: usize = 1100;
 
-fn same(written: Option<&[u8]>, s: &[u8]) -> &'static str {
-    match written {
-        Some(bytes) => { if bytes == s { "yes" } else { "no" } }
+fn same(written: Result<usize, Refusal>, out: &[u8], s: &[u8]) -> &'static str {
+    match written.ok().and_then(|n| out.get(..n)) {
+        Some(bytes) if bytes == s => "yes",
+        Some(_) => "no",
         None => "?",
     }
 }
 
 pub fn frame_again(s: &[u8]) -> &'static str {
     let mut out = [0; LONGEST];
-    let Ok(frame) = Frame::read(s) else {
-        return "?";
-    };
-    match frame.write(&mut out) {
-        Ok(n) => same(out.get(0..n), s),
-        Err(_) => "?",
-    }
+    let written = Frame::read(s).and_then(|frame| frame.write(&mut out));
+    same(written, &out, s)
 }
 
 pub fn packet_again(s: &[u8], n_r: u8) -> &'static str {
@@ -31,11 +28,6 @@ pub fn packet_again(s: &[u8], n_r: u8) -> &'static str {
     } else {
         Cable::Redundant
     };
-    let Ok(packet) = Packet::read(s) else {
-        return "?";
-    };
-    match packet.write(cable, &mut out) {
-        Ok(n) => same(out.get(0..n), s),
-        Err(_) => "?",
-    }
+    let written = Packet::read(s).and_then(|packet| packet.write(cable, &mut out));
+    same(written, &out, s)
 }

@@ -2,7 +2,7 @@
 use Rattle.std.specs.Prelude.{ℕ, List, Ok, Err, Result, slice_index}
 use Rattle.terms.specs.declared.refusal.Refusal.{Refusal}
 use Rattle.codec.specs.Frames.{read_frame}
-use Rattle.packets.specs.Packets.{PacketValue}
+use Rattle.packets.specs.Packets.{PacketValue, type_code}
 use Rattle.inspector.specs.declared.session.Session.{Session}
 use Rattle.inspector.specs.declared.session.Unwrapped.{Unwrapped}
 use Rattle.inspector.specs.Sessions.{FindingValue, finding_values, heard, found}
@@ -16,7 +16,7 @@ pub record UnwrappedValue : Type 0 where
 
 abbrev pub unwrapped_value : Unwrapped → UnwrappedValue
 unwrapped_value u =
-    record { number = u.envelope.number.0; n_r = u.envelope.n_r; packet_type = u.envelope.packet_type; frame = finding_values u.frame }
+    record { number = u.envelope.number.0; n_r = u.envelope.n_r; packet_type = type_code u.envelope.packet_type; frame = finding_values u.frame }
 
 abbrev pub unwrapped_values : Result Unwrapped Refusal → Result UnwrappedValue Refusal
 unwrapped_values (Ok u) = Ok (unwrapped_value u)

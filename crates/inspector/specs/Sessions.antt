@@ -46,8 +46,8 @@ worded receiver None = None
 -- the connection's word: the responder's identifier with Rc on the initiator's frames, the initiator's with Ra on the responder's
 abbrev pub word_from : Option Parties → Role → Option ℕ → Option ℕ → Option ℕ
 word_from None receiver ra rc = None
-word_from (Some p) Initiator ra rc = worded p.initiator ra
-word_from (Some p) Responder ra rc = worded p.responder rc
+word_from (Some p) Initiator ra rc = worded p.identifiers.initiator ra
+word_from (Some p) Responder ra rc = worded p.identifiers.responder rc
 
 abbrev pub word_towards : Session → Role → Option ℕ
 word_towards s receiver = word_from s.parties receiver s.ra s.rc

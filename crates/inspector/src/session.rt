@@ -12,7 +12,7 @@ use codec::frame::Frame;
 use codec::frame_type::ReasonCodes;
 use codec::seal::bears;
 use codec::telegram::Telegram;
-use packets::packet::{Packet, TransportNumber};
+use packets::packet::{Packet, PacketType, TransportNumber};
 use safety::word::SafetyWord;
 use terms::refusal::Refusal;
 use terms::role::Role;
@@ -72,7 +72,7 @@ pub struct Envelope {
     pub number: TransportNumber,
     // which cable it was written for: 1 the normal, 0 the redundant one
     pub n_r: u8,
-    pub packet_type: u8,
+    pub packet_type: PacketType,
 }
 
 // A packet, and what its frame says.
@@ -86,23 +86,15 @@ pub struct Unwrapped<'a> {
 fn unmix(mix: u64, other: Option<u64>) -> Option<u64>
     ensures { result ≡ unmixed mix other }
 {
-    match other {
-        Some(r) => Some(mix ^ r),
-        None => None,
-    }
+    other.map(|number| mix ^ number)
 }
 
 fn compare(x: u64, wanted: Option<u64>) -> Verdict
     ensures { result ≡ compared x wanted }
 {
     match wanted {
-        Some(y) => {
-            if x == y {
-                Verdict::Same
-            } else {
-                Verdict::Different
-            }
-        }
+        Some(y) if x == y => Verdict::Same,
+        Some(_) => Verdict::Different,
         None => Verdict::Unknown,
     }
 }
@@ -132,17 +124,12 @@ impl Session {
     fn word_towards(self, receiver: Role) -> Option<u64>
         ensures { result ≡ word_towards self receiver }
     {
-        let Some(parties) = self.parties else {
-            return None;
+        let parties = self.parties?;
+        let session = match receiver {
+            Role::Initiator => self.ra,
+            Role::Responder => self.rc,
         };
-        let (identifier, session) = match receiver {
-            Role::Initiator => (parties.initiator, self.ra),
-            Role::Responder => (parties.responder, self.rc),
-        };
-        match session {
-            Some(r) => Some(SafetyWord::of(identifier, r).0),
-            None => None,
-        }
+        session.map(|number| SafetyWord::of(*parties.identifiers.at(receiver), number).0)
     }
 
     // An AU1 begins anew; an AU2 gives Ra, an AU3 Rc.
@@ -219,14 +206,11 @@ impl Session {
         ensures after { self.new ≡ heard_in self.old (read_packet s.now) }
     {
         let packet = Packet::read(s)?;
-        let [_, _, _, _, n_r, packet_type, ..] = s else {
-            return Err(Refusal::PacketLength);
-        };
         Ok(Unwrapped {
             envelope: Envelope {
                 number: packet.number,
-                n_r: *n_r,
-                packet_type: *packet_type,
+                n_r: s[4],
+                packet_type: PacketType::of(packet.frame),
             },
             frame: self.frame(packet.frame),
         })

@@ -149,7 +149,7 @@ impl fmt::Display for Envelope {
     fn fmt<W: fmt::Write>(&self, f: &mut fmt::Formatter<W>) -> fmt::Result {
         let number = self.number.0;
         let n_r = self.n_r;
-        let packet_type = self.packet_type;
+        let packet_type = u8::from(self.packet_type);
         write!(f, "number={number} n/r={n_r} type={packet_type}")
     }
 }

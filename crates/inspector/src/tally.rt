@@ -1,7 +1,7 @@
 // The counts that the last line of a report sums up.
 ghost use Rattle.std.specs.Prelude.{◌≡◌};
 ghost use Rattle.inspector.specs.Sessions.{finding_values};
-ghost use Rattle.inspector.specs.Tallies.{nothing, seen_as, with_seen, counted};
+ghost use Rattle.inspector.specs.Tallies.{nothing, more, seen_as, with_seen, counted};
 
 use super::session::{Finding, Verdict};
 use terms::refusal::Refusal;
@@ -40,6 +40,13 @@ pub struct Tally {
     pub disagreeing: u64,
 }
 
+// One more, as far as 64 bits go.
+fn raise(count: &mut u64)
+    ensures { count.new ≡ more count.old }
+{
+    *count = count.saturating_add(1);
+}
+
 impl Tally {
     pub fn new() -> Tally
         ensures { result ≡ nothing }
@@ -62,11 +69,11 @@ impl Tally {
         ensures { self.new ≡ with_seen self.old seen }
     {
         match seen {
-            Seen::Refused => self.refused = self.refused.saturating_add(1),
+            Seen::Refused => raise(&mut self.refused),
             Seen::Other => {}
-            Seen::Data(Verdict::Same) => self.same = self.same.saturating_add(1),
-            Seen::Data(Verdict::Different) => self.different = self.different.saturating_add(1),
-            Seen::Data(Verdict::Unknown) => self.unknown = self.unknown.saturating_add(1),
+            Seen::Data(Verdict::Same) => raise(&mut self.same),
+            Seen::Data(Verdict::Different) => raise(&mut self.different),
+            Seen::Data(Verdict::Unknown) => raise(&mut self.unknown),
         }
     }
 
@@ -74,32 +81,32 @@ impl Tally {
     pub fn count(&mut self, outcome: Outcome)
         ensures { self.new ≡ counted self.old outcome }
     {
-        self.lines = self.lines.saturating_add(1);
+        raise(&mut self.lines);
         match outcome {
             Outcome::Note => {}
-            Outcome::Wrong => self.wrong = self.wrong.saturating_add(1),
+            Outcome::Wrong => raise(&mut self.wrong),
             Outcome::Frame(seen) => {
-                self.frames = self.frames.saturating_add(1);
+                raise(&mut self.frames);
                 self.see(seen);
             }
             Outcome::Packet(seen) => {
-                self.packets = self.packets.saturating_add(1);
+                raise(&mut self.packets);
                 self.see(seen);
             }
             Outcome::Crc { agrees } => {
-                self.crcs = self.crcs.saturating_add(1);
+                raise(&mut self.crcs);
                 if !agrees {
-                    self.disagreeing = self.disagreeing.saturating_add(1);
+                    raise(&mut self.disagreeing);
                 }
             }
         }
     }
 }
 
-impl Seen {
-    pub fn of(finding: Result<Finding<'_>, Refusal>) -> Seen
-        ensures { result ≡ seen_as (finding_values finding.entry) }
-    {
+impl From<Result<Finding<'_>, Refusal>> for Seen {
+    ghost from_gives = { λ finding seen. seen ≡ seen_as (finding_values finding) };
+
+    fn from(finding: Result<Finding<'_>, Refusal>) -> Seen {
         match finding {
             Err(_) => Seen::Refused,
             Ok(Finding::Dt { verdict, .. }) => Seen::Data(verdict),

@@ -1,0 +1,116 @@
+// What is printed of the lines of a capture, one after another.
+use super::again::{frame_again, packet_again};
+use captures::check::Walk;
+use captures::hex::decode;
+use captures::line::{Line, LineFault};
+use captures::parties::Parties;
+use inspector::session::Session;
+use inspector::show::Answer;
+use inspector::tally::{Outcome, Seen};
+use std::io;
+use terms::failure::Failure;
+
+// What is known of the session, and the number of the line that was read last.
+#[derive(Drop)]
+pub struct Report<'a> {
+    rt: &'a HostRuntime,
+    session: Session,
+    number: u64,
+}
+
+impl<'a> Report<'a> {
+    pub fn new(rt: &'a HostRuntime) -> Report<'a> {
+        Report {
+            rt,
+            session: Session::new(None),
+            number: 0,
+        }
+    }
+
+    // Takes the next line, without the LF that ends it.
+    pub fn line(&mut self, line: &[u8]) -> io::Result<Outcome> {
+        self.number = self.number.saturating_add(1);
+        if self.number == 1 {
+            return self.first_line(line);
+        }
+        match Line::read(line) {
+            Ok(read) => self.read_line(read),
+            Err(fault) => self.wrong_line(fault),
+        }
+    }
+
+    fn wrong_line(&self, fault: LineFault) -> io::Result<Outcome> {
+        let number = self.number;
+        println!(self.rt; "{number} wrong line: {fault}")?;
+        Ok(Outcome::Wrong)
+    }
+
+    fn first_line(&mut self, line: &[u8]) -> io::Result<Outcome> {
+        match Parties::read(line) {
+            Ok(parties) => {
+                self.session = Session::new(Some(parties));
+                println!(self.rt; "1 identifiers {parties}")?;
+                Ok(Outcome::Note)
+            }
+            Err(fault) => self.wrong_line(fault),
+        }
+    }
+
+    fn read_line(&mut self, line: Line<'_>) -> io::Result<Outcome> {
+        let text = match line {
+            Line::Note => return Ok(Outcome::Note),
+            Line::Frame(text) | Line::Packet(text) | Line::Crc { bytes: text, .. } => text,
+        };
+        let decoded = match decode(self.rt.alloc(), text) {
+            Ok(decoded) => decoded,
+            Err(Failure::Cause(fault)) => return self.wrong_line(fault),
+            Err(Failure::NoMemory) => return Err(io::Error::from(io::ErrorKind::OutOfMemory)),
+        };
+        let bytes = decoded.as_slice();
+        match line {
+            Line::Note => Ok(Outcome::Note),
+            Line::Frame(_) => self.frame_line(bytes),
+            Line::Packet(_) => self.packet_line(bytes),
+            Line::Crc { first, second, .. } => self.crc_line(Walk::of(bytes, first, second)),
+        }
+    }
+
+    fn frame_line(&mut self, bytes: &[u8]) -> io::Result<Outcome> {
+        let number = self.number;
+        let finding = self.session.frame(bytes);
+        let answer = Answer(finding);
+        if finding.is_err() {
+            println!(self.rt; "{number} frame {answer}")?;
+        } else {
+            let again = frame_again(bytes);
+            println!(self.rt; "{number} frame {answer} again={again}")?;
+        }
+        Ok(Outcome::Frame(Seen::from(finding)))
+    }
+
+    fn packet_line(&mut self, bytes: &[u8]) -> io::Result<Outcome> {
+        let number = self.number;
+        match self.session.packet(bytes) {
+            Ok(unwrapped) => {
+                let envelope = unwrapped.envelope;
+                let answer = Answer(unwrapped.frame);
+                let again = packet_again(bytes, envelope.n_r);
+                println!(self.rt; "{number} packet {envelope} frame {answer} again={again}")?;
+                Ok(Outcome::Packet(Seen::from(unwrapped.frame)))
+            }
+            Err(refusal) => {
+                let n = u8::from(refusal);
+                println!(self.rt; "{number} packet refused {n}")?;
+                Ok(Outcome::Packet(Seen::Refused))
+            }
+        }
+    }
+
+    fn crc_line(&self, walk: Walk) -> io::Result<Outcome> {
+        let number = self.number;
+        println!(self.rt; "{number} crc {walk}")?;
+        Ok(Outcome::Crc {
+            agrees: walk.agrees,
+        })
+    }
+}
