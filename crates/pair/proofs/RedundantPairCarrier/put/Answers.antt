@@ -1,5 +1,5 @@
 -- Both carriers are put a packet of the frame.
-use Rattle.std.proofs.Common.{◌≡◌, ℕ, ◌+◌, ◌^◌, ◌<◌, ◌≤◌, List, length, replicate, Ok, sym, refl, subst, arith}
+use Rattle.std.proofs.Common.{◌≡◌, ℕ, ◌+◌, ◌^◌, ◌<◌, ◌≤◌, List, length, Ok, sym, subst, arith}
 use Rattle.packets.specs.declared.packet.Cable.{Cable}
 use Rattle.packets.specs.declared.packet.Cable.TheVariants.{Normal, Redundant}
 use Rattle.packets.specs.Packets.{PacketValue, packet_bytes, read_packet}
