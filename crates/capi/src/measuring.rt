@@ -115,7 +115,10 @@ impl Desk {
     // Puts one string and fetches one; says whether one came.
     fn turn(&mut self, string: &[u8]) -> bool {
         let _ = self.wire.put(Role::Initiator, string);
-        matches!(self.wire.fetch(Role::Responder, &mut self.fetched), Ok(Some(_)))
+        matches!(
+            self.wire.fetch(Role::Responder, &mut self.fetched),
+            Ok(Some(_))
+        )
     }
 }
 
@@ -138,11 +141,11 @@ fn round(desk: &mut Desk, ends: &mut Sides<Opened>, message: &[u8]) -> u64
 }
 
 // So many rounds.
-fn rounds(desk: &mut Desk, ends: &mut Sides<Opened>, message: &[u8], rounds: u32) -> u64
-    ensures { result ≤ 3 * rounds }
+fn rounds(desk: &mut Desk, ends: &mut Sides<Opened>, message: &[u8], times: u32) -> u64
+    ensures { result ≤ 3 * times }
 {
     let mut delivered = 0;
-    for _ in 0..rounds {
+    for time in 0..times {
         delivered += round(desk, ends, message);
     }
     delivered
@@ -202,7 +205,7 @@ fn turns(desk: &mut Desk, string: &[u8], held: u32, rounds: u32) -> u32
         let _ = desk.wire.put(Role::Initiator, string);
     }
     let mut came = 0;
-    for _ in 0..rounds {
+    for round in 0..rounds {
         if desk.turn(string) {
             came += 1;
         }

@@ -1,5 +1,5 @@
 // A rehearsal whose text goes to the caller's buffer.
-ghost use Rattle.std.specs.Prelude.{◌≡◌};
+ghost use Rattle.std.specs.Prelude.{◌≡◌, ◌^◌, ◌<◌, IfOk};
 ghost use Rattle.terms.specs.Buffers.{put_answer, put_after};
 ghost use Rattle.capi.specs.Rehearsing.{answer_of, Rehearsing};
 
@@ -12,6 +12,7 @@ use terms::refusal::Refusal;
 fn lay(text: &[u8], out: &mut [u8]) -> Result<usize, Refusal>
     ensures answer { result ≡ put_answer text.now out.old }
     ensures after { out.new ≡ put_after text.now out.old }
+    ensures bound { IfOk result (λ n. n < 2 ^ 63) }
 {
     let n = text.len();
     if out.len() < n {
@@ -23,6 +24,7 @@ fn lay(text: &[u8], out: &mut [u8]) -> Result<usize, Refusal>
 
 // A length as it is, or the refusal's number below zero.
 fn answer(laid: Result<usize, Refusal>) -> i64
+    requires { IfOk laid (λ n. n < 2 ^ 63) }
     ensures { result ≡ answer_of laid }
 {
     match laid {

@@ -2,5 +2,5 @@ use Rattle.std.proofs.Common.{◌*◌, ◌≤◌}
 use Rattle.capi.proofs.measuring.rounds.Given as goal
 
 -- each round delivers at most three messages
-abbrev pub invariant-loop-delivered : goal.invariant-loop-delivered
-invariant-loop-delivered l = l.delivered ≤ 3 * l._i
+abbrev pub invariant-loop-time : goal.invariant-loop-time
+invariant-loop-time l = l.delivered ≤ 3 * l.time
