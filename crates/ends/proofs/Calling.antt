@@ -1,5 +1,6 @@
 -- What a call put is what it laid at the start of its output buffer; and what a call that goes on has passed.
-use Rattle.std.proofs.Common.{◌≡◌, ℕ, ◌≤◌, Bool, true, false, cond, ltb, List, ◌++◌, length, drop, Some, None, Ok, Err, Option, Result, refl, sym, ap, ◌∙◌, subst, arith, append_assoc, length-append, length-drop, length-take}
+use Rattle.std.proofs.Common.{◌≡◌, ℕ, ◌≤◌, Bool, true, false, cond, ltb, leb, ◌&&◌, List, ◌++◌, length, drop, Some, None, Ok, Err, Option, Result, refl, sym, ap, ◌∙◌, subst, ap₂, arith, append_assoc, length-append, length-drop, length-take}
+use Rattle.std.proofs.lemmas.Bool.{le-leb}
 use Rattle.std.proofs.lemmas.List.{take-append-drop, drop-append-le}
 use Rattle.std.specs.Array.{IsFirstChunk}
 use Rattle.std.specs.Result.{IsOk, IsErrAnd}
@@ -11,7 +12,8 @@ use Rattle.terms.proofs.Laid.{laid_front}
 use Rattle.carrier.specs.Rules.{Meaning, FetchRules}
 use Rattle.ends.specs.declared.answer.Answer.{Answer}
 use Rattle.ends.specs.Puts.{longest_frame, put_length, put_into, front, Fits}
-use Rattle.ends.specs.Calls.{call_refusal}
+use Rattle.ends.specs.Calls.{call_refusal, out_refusal, opening_refusal, tick_refusal, fetch_refusal}
+use Rattle.states.specs.States.{EndValue}
 
 -- the start of a buffer with the buffer's rest is the buffer
 pub kept_out : (k : ℕ) (out ws : List ℕ) → IsFirstChunk out ws k → ws ++ drop k out ≡ out
@@ -46,9 +48,21 @@ passed true x rest r h e = let clash : ◌≡◌ {A = Option Refusal} None (Some
 passed false x rest r h e = sym e
 
 -- the carrier and the buffers are passed, so the refusal is what the end says
-pub last_refusal : (largest : ℕ) (room : Bool) (end r : Option Refusal) → None ≡ cond (ltb largest longest_frame) (Some CarrierTooNarrow) None → room ≡ true → r ≡ end → call_refusal largest room end ≡ r
-last_refusal largest room end r carrier buffers e =
+judged : (largest : ℕ) (room : Bool) (end r : Option Refusal) → None ≡ cond (ltb largest longest_frame) (Some CarrierTooNarrow) None → room ≡ true → r ≡ end → call_refusal largest room end ≡ r
+judged largest room end r carrier buffers e =
     passed (ltb largest longest_frame) _ _ r carrier (e ∙ sym (ap (λ b. cond b end (Some BufferTooShort)) buffers))
+
+pub opening_judged : (largest out : ℕ) → None ≡ cond (ltb largest longest_frame) (Some CarrierTooNarrow) None → longest_frame ≤ out → opening_refusal largest out ≡ None
+opening_judged largest out carrier room = judged largest (leb longest_frame out) None None carrier (le-leb _ _ room) refl
+
+pub tick_judged : (e : EndValue) (largest out : ℕ) (r : Option Refusal) → None ≡ cond (ltb largest longest_frame) (Some CarrierTooNarrow) None → longest_frame ≤ out
+    → r ≡ out_refusal e.state → tick_refusal e largest out ≡ r
+tick_judged e largest out r carrier room is = judged largest (leb longest_frame out) (out_refusal e.state) r carrier (le-leb _ _ room) is
+
+pub fetch_judged : (e : EndValue) (largest buf out : ℕ) (r : Option Refusal) → None ≡ cond (ltb largest longest_frame) (Some CarrierTooNarrow) None → largest ≤ buf → longest_frame ≤ out
+    → r ≡ out_refusal e.state → fetch_refusal e largest buf out ≡ r
+fetch_judged e largest buf out r carrier long room is =
+    judged largest (leb largest buf && leb longest_frame out) (out_refusal e.state) r carrier (ap₂ ◌&&◌ (le-leb _ _ long) (le-leb _ _ room)) is
 
 -- a fetch into a buffer that is long enough is not refused
 pub fetched : (m m' : Meaning) (at : Role) (buf buf' : List ℕ) (r : Result (Option ℕ) Refusal) → m.largest ≤ length buf → FetchRules m m' at buf buf' r → IsOk r

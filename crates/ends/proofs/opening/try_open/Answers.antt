@@ -1,10 +1,9 @@
-use Rattle.std.proofs.Common.{◌≡◌, leb, length, None, refl, sym, ap, ◌∙◌, subst, rules}
-use Rattle.std.proofs.lemmas.Bool.{le-leb}
+use Rattle.std.proofs.Common.{◌≡◌, length, None, sym, ap, ◌∙◌, subst, rules}
 use Rattle.ends.specs.Calls.{Puts, opening_refusal, opening_put}
-use Rattle.ends.specs.Puts.{longest_frame, put_length, put_into}
+use Rattle.ends.specs.Puts.{put_length, put_into}
 use Rattle.states.specs.States.{status_of}
 use Rattle.ends.specs.Steps.{PutStep, OpeningStepped}
-use Rattle.ends.proofs.Calling.{laid_in, last_refusal}
+use Rattle.ends.proofs.Calling.{laid_in, opening_judged}
 use Rattle.ends.proofs.opening.try_open.Goals as goal
 
 pub put-requires : goal.put-requires
@@ -22,8 +21,7 @@ returns g c =
     let m' = g.C.Carrier.meaning c.put.new.carrier in
     let out = c.args.out.now in
     let chunk = c.in-Some.ensures.cases in
-    let none : opening_refusal m.largest (length out) ≡ None =
-    last_refusal m.largest (leb longest_frame (length out)) None None c.in_ok-takes_frames.ensures (le-leb _ _ chunk.enough) refl in
+    let none : opening_refusal m.largest (length out) ≡ None = opening_judged _ _ c.in_ok-takes_frames.ensures chunk.enough in
     let state : end.state ≡ first = search rules in
     let party : end.role ≡ role = search rules in
     let laid = laid_in (opening_put end.state) _ out c.in-Some.room.now l.new.out l.result chunk l.array_long l.ensures.value l.ensures.after in

@@ -1,6 +1,5 @@
-use Rattle.std.proofs.Common.{◌≡◌, ℕ, ◌-◌, ◌≤◌, ◌&&◌, leb, List, ◌++◌, length, take, drop, Some, None, Ok, Err, Option, refl, sym, ap, ◌∙◌, subst, ap₂, arith, length-take, rules}
+use Rattle.std.proofs.Common.{◌≡◌, ℕ, ◌-◌, ◌≤◌, List, ◌++◌, length, take, drop, Some, None, Ok, Err, Option, refl, sym, ap, ◌∙◌, subst, ap₂, arith, length-take, rules}
 use native.Mathlib.Nat.{sub-zero}
-use Rattle.std.proofs.lemmas.Bool.{le-leb}
 use Rattle.terms.specs.declared.role.Role.{Role}
 use Rattle.terms.specs.Numbers.{Bytes}
 use Rattle.carrier.specs.Rules.{FetchRules, FetchSome}
@@ -8,10 +7,10 @@ use Rattle.ends.specs.Ends.{end_value}
 use Rattle.ends.specs.Ways.{fetch_way}
 use Rattle.ends.specs.Effects.{after_fetch, fetch_put, delivers}
 use Rattle.ends.specs.Puts.{longest_frame, put_length, put_into, front}
-use Rattle.ends.specs.Calls.{Puts, Fetched, answer_of, out_refusal, fetch_refusal}
+use Rattle.ends.specs.Calls.{Puts, Fetched, answer_of, fetch_refusal}
 use Rattle.states.specs.States.{status_of}
 use Rattle.ends.specs.Steps.{PutStep, FetchStepped}
-use Rattle.ends.proofs.Calling.{failed, kept_out, laid_in, last_refusal, fetched}
+use Rattle.ends.proofs.Calling.{failed, kept_out, laid_in, fetch_judged, fetched}
 use Rattle.ends.proofs.Keeping.{kept_fetch}
 use Rattle.ends.proofs.end.End.try_fetch.Goals as goal
 
@@ -24,9 +23,7 @@ returns-in_err-is_running g c =
     let x = c.in_err-is_running.field-0.0 in
     let chunk = c.in-Some.ensures.cases in
     let long : m.largest ≤ length buf = omega arith in
-    let refused : fetch_refusal e m.largest (length buf) (length out) ≡ Some x =
-    last_refusal m.largest (leb m.largest (length buf) && leb longest_frame (length out)) (out_refusal e.state) (Some x) c.in_ok-takes_frames.ensures
-    (ap₂ ◌&&◌ (le-leb _ _ long) (le-leb _ _ chunk.enough)) c.in_err-is_running.ensures in
+    let refused : fetch_refusal e m.largest (length buf) (length out) ≡ Some x = fetch_judged e _ _ _ _ c.in_ok-takes_frames.ensures long chunk.enough c.in_err-is_running.ensures in
     let is : c.from_residual-in_err-is_running.result ≡ Err x = failed _ x c.from_residual-in_err-is_running.ensures.1 in
     let r = answer_of e c.from_residual-in_err-is_running.result in
     record {
@@ -51,9 +48,7 @@ returns-in_default-unwrap g c =
     let out = c.args.out.now in
     let chunk = c.in-Some.ensures.cases in
     let long : m.largest ≤ length buf = omega arith in
-    let none : fetch_refusal e m.largest (length buf) (length out) ≡ None =
-    last_refusal m.largest (leb m.largest (length buf) && leb longest_frame (length out)) (out_refusal e.state) None c.in_ok-takes_frames.ensures
-    (ap₂ ◌&&◌ (le-leb _ _ long) (le-leb _ _ chunk.enough)) c.in_ok-is_running.ensures in
+    let none : fetch_refusal e m.largest (length buf) (length out) ≡ None = fetch_judged e _ _ _ _ c.in_ok-takes_frames.ensures long chunk.enough c.in_ok-is_running.ensures in
     let is : c.fetch.result ≡ Ok None = search rules in
     let output = kept_out _ _ _ chunk in
     record {
@@ -115,9 +110,7 @@ returns g c =
     let place = l.ensures.place ∙ ap₂ (λ x k. delivers (fetch_way e x) k) is (ap length is ∙ long) in
     let kept = kept_fetch e way in
     let room : m.largest ≤ length buf = omega arith in
-    let none : fetch_refusal e m.largest (length buf) (length out) ≡ None =
-    last_refusal m.largest (leb m.largest (length buf) && leb longest_frame (length out)) (out_refusal e.state) None c.in_ok-takes_frames.ensures
-    (ap₂ ◌&&◌ (le-leb _ _ room) (le-leb _ _ chunk.enough)) c.in_ok-is_running.ensures in
+    let none : fetch_refusal e m.largest (length buf) (length out) ≡ None = fetch_judged e _ _ _ _ c.in_ok-takes_frames.ensures room chunk.enough c.in_ok-is_running.ensures in
     let laid = laid_in p _ out c.in-Some.room.now l.new.out l.result.1 chunk l.array_long value after in
     let put = λ (P : Role → Option (List ℕ) → Type 0) (h : P e'.role (front l.result.1 l.new.out)). subst (λ w. P w p) (ap (λ x. x.role) end ∙ kept.role) (subst (P e'.role) laid.front h) in
     let answer = c.answer-2.ensures ∙ ap₂ (λ x y. record { refused = None; status = status_of e'.state; delivered = x; put = y }) place value in

@@ -1,14 +1,13 @@
-use Rattle.std.proofs.Common.{◌≡◌, leb, List, ◌++◌, length, drop, Some, None, Err, Option, refl, sym, ap, ◌∙◌, subst, ap₂}
-use Rattle.std.proofs.lemmas.Bool.{le-leb}
+use Rattle.std.proofs.Common.{◌≡◌, List, ◌++◌, length, drop, Some, None, Err, Option, refl, sym, ap, ◌∙◌, subst, ap₂}
 use Rattle.terms.specs.declared.role.Role.{Role}
 use Rattle.ends.specs.Ends.{end_value}
 use Rattle.ends.specs.Ways.{tick_way}
 use Rattle.ends.specs.Effects.{tick_put}
 use Rattle.ends.specs.Puts.{longest_frame, front}
-use Rattle.ends.specs.Calls.{Puts, Ticked, answer_of, out_refusal, tick_refusal, message_refusal, said}
+use Rattle.ends.specs.Calls.{Puts, Ticked, answer_of, tick_refusal, message_refusal, said}
 use Rattle.states.specs.States.{status_of}
 use Rattle.ends.specs.Steps.{PutStep, TickStepped}
-use Rattle.ends.proofs.Calling.{failed, kept_out, laid_in, last_refusal}
+use Rattle.ends.proofs.Calling.{failed, kept_out, laid_in, tick_judged}
 use Rattle.ends.proofs.Keeping.{kept_tick}
 use Rattle.ends.proofs.end.End.try_tick.Goals as goal
 
@@ -20,8 +19,7 @@ returns-in_err-is_running g c =
     let message = c.args.message.now in
     let x = c.in_err-is_running.field-0.0 in
     let chunk = c.in-Some.ensures.cases in
-    let refused : tick_refusal e m.largest (length out) ≡ Some x =
-    last_refusal m.largest (leb longest_frame (length out)) (out_refusal e.state) (Some x) c.in_ok-takes_frames.ensures (le-leb _ _ chunk.enough) c.in_err-is_running.ensures in
+    let refused : tick_refusal e m.largest (length out) ≡ Some x = tick_judged e _ _ _ c.in_ok-takes_frames.ensures chunk.enough c.in_err-is_running.ensures in
     let is : c.from_residual-in_err-is_running.result ≡ Err x = failed _ x c.from_residual-in_err-is_running.ensures.1 in
     record {
       rules =
@@ -48,8 +46,7 @@ returns g c =
     let chunk = c.in-Some.ensures.cases in
     let p = tick_put e (tick_way e) (said e.values message) in
     let kept = kept_tick e (tick_way e) in
-    let none : tick_refusal e m.largest (length out) ≡ None =
-    last_refusal m.largest (leb longest_frame (length out)) (out_refusal e.state) None c.in_ok-takes_frames.ensures (le-leb _ _ chunk.enough) c.in_ok-is_running.ensures in
+    let none : tick_refusal e m.largest (length out) ≡ None = tick_judged e _ _ _ c.in_ok-takes_frames.ensures chunk.enough c.in_ok-is_running.ensures in
     let laid = laid_in p _ out c.in-Some.room.now l.new.out l.result chunk l.array_long l.ensures.value l.ensures.after in
     let put = λ (P : Role → Option (List _) → Type 0) (h : P e'.role (front l.result l.new.out)). subst (λ w. P w p) (ap (λ x. x.role) l.ensures.end ∙ kept.role) (subst (P e'.role) laid.front h) in
     record {
