@@ -1,11 +1,9 @@
 // Whether writing what was read gives back the same bytes: `yes`, or `no`, which is for bytes that reading ignores.
 // `?` is for a packet that is longer than any carrier takes.
+use carrier::GREATEST_LENGTH;
 use codec::frame::Frame;
 use packets::packet::{Cable, Packet};
 use terms::refusal::Refusal;
-
-// The longest string that any carrier takes.
-const LONGEST: usize = 1100;
 
 fn same(written: Result<usize, Refusal>, out: &[u8], s: &[u8]) -> &'static str {
     match written.ok().and_then(|n| out.get(..n)) {
@@ -16,13 +14,13 @@ fn same(written: Result<usize, Refusal>, out: &[u8], s: &[u8]) -> &'static str {
 }
 
 pub fn frame_again(s: &[u8]) -> &'static str {
-    let mut out = [0; LONGEST];
+    let mut out = [0; GREATEST_LENGTH];
     let written = Frame::read(s).and_then(|frame| frame.write(&mut out));
     same(written, &out, s)
 }
 
 pub fn packet_again(s: &[u8], n_r: u8) -> &'static str {
-    let mut out = [0; LONGEST];
+    let mut out = [0; GREATEST_LENGTH];
     let cable = if n_r == 1 {
         Cable::Normal
     } else {
