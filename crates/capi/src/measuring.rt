@@ -36,7 +36,7 @@ const VALUES: Values = Values {
     ask: Ticks(10_000),
     wait: Ticks(1_000),
     setup: Ticks(10_000),
-    longest: 1_023,
+    longest: LONGEST_MESSAGE as u16,
     ec: ExecutionCycle(0),
 };
 
@@ -47,15 +47,9 @@ fn sheet() -> Sheet {
         far: VALUES.own,
         ..VALUES
     };
-    let Ok(initiator) = Params::new(VALUES) else {
-        unreachable()
-    };
-    let Ok(responder) = Params::new(across) else {
-        unreachable()
-    };
     Sides {
-        initiator,
-        responder,
+        initiator: Params::new(VALUES).unwrap(),
+        responder: Params::new(across).unwrap(),
     }
 }
 
@@ -78,10 +72,7 @@ impl Desk {
     }
 
     fn open<N: SessionNumbers>(&mut self, params: Params, numbers: N) -> Opened {
-        let Ok(opened) = End::open(params, numbers, &mut self.wire, &mut self.out) else {
-            unreachable()
-        };
-        opened
+        End::open(params, numbers, &mut self.wire, &mut self.out).unwrap()
     }
 
     fn stop(&mut self, opened: Opened) {

@@ -1,5 +1,5 @@
 -- A synchronising telegram that was accepted synchronises in the model too.
-use Rattle.std.proofs.Common.{◌≡◌, ℕ, true, false, ◌⊎◌, List, Some, None, Option, sym, refl, ap, ◌∙◌, subst, inl, inr, ⊎_elim, arith}
+use Rattle.std.proofs.Common.{◌≡◌, ℕ, true, ◌⊎◌, List, Some, None, Option, sym, refl, ap, ◌∙◌, subst, inl, inr, ⊎_elim, arith}
 use Rattle.terms.specs.declared.role.Role.{Role}
 use Rattle.terms.specs.declared.role.Role.TheVariants.{Initiator, Responder}
 use Rattle.terms.specs.declared.counters.SequenceNumber.{SequenceNumber}
@@ -22,6 +22,7 @@ use Rattle.link.proofs.Seats.{Seated}
 use Rattle.link.proofs.Deeds.{tel, start_deed, first_deed, up_deed, fetch_deed, took_deed, seat_deed, deed_of}
 use Rattle.link.proofs.Reading.{Taken, FirstSpot, UpSpot, content_of, takes_is, starts_is, carries_one}
 use Rattle.link.proofs.Syncing.{took_bytes}
+use Rattle.link.proofs.Apart.{false_true}
 
 -- what synchronises, by the end that accepts
 abbrev Form : EndValue → TelegramValue → Type 0
@@ -70,9 +71,6 @@ module _ (e : EndValue) (x : List ℕ) (b : Bytes x) (t : TelegramValue) (c : Ca
       (λ q. subst (λ st. (f : Tel) × Syncs f (fetch_deed e.role st (fetch.Takes kind sn ec))) (sym p.state_is)
       (up_syncs p.sent kind sn ec g.message (sym (ap (λ y. content_type y.content) same ∙ ap content_type g.content) ∙ q.1))))
       form
-
-  false_true : {A : Type 0} → false ≡ true → A
-  false_true h = let z : ◌≡◌ {A = ℕ} 0 1 = cc in absurd (omega arith)
 
   by_way : (way : FetchWay) → fetch_way e x ≡ way → accepting e.state way ≡ true → Form e t → (f : Tel) × Syncs f (fetch_deed e.role e.state way)
   by_way fetch.Drops w a form = false_true a

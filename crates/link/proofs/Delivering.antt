@@ -23,9 +23,7 @@ use Rattle.link.proofs.Seats.{Seated}
 use Rattle.link.proofs.Reading.{Taken, takes_is}
 use Rattle.link.proofs.Putting.{tick_carries, FetchSent, sent_in_ar, sent_in_ec, sent_in_first, sent_in_up, fetch_carries, opening_carries, stop_carries}
 use Rattle.link.proofs.Fits.{FitSeat}
-
-none_some : {A X : Type 0} (x : X) → ◌≡◌ {A = Option X} None (Some x) → A
-none_some x h = let z : ◌≡◌ {A = ℕ} 0 1 = cc in absurd (omega arith)
+use Rattle.link.proofs.Apart.{none_some}
 
 -- a fetch that delivered
 pub record Got (m : Moment) (t : Fetch m) : Type 0 where

@@ -28,7 +28,7 @@ use Rattle.model.proofs.Laws.{order_stands, young_stands, recent_stands}
 use Rattle.link.proofs.Seats.{Seated, seated}
 use Rattle.link.proofs.Shapes.{Looks, Seen, limits}
 use Rattle.link.proofs.Deeds.{who, kind_of, tel_of, tel, first_deed, up_deed, fetch_deed, took_deed, seat_deed, deed_of}
-use Rattle.link.proofs.Reading.{Taken, content_of}
+use Rattle.link.proofs.Reading.{Taken, content_of, content_message}
 use Rattle.link.proofs.Fetching.{told}
 use Rattle.link.proofs.Fits.{fits}
 use Rattle.link.proofs.Simulation.{mover, mine, other, FromOther, shape, sim, far_put}
@@ -76,11 +76,6 @@ of_none Initiator Initiator = refl
 of_none Initiator Responder = refl
 of_none Responder Initiator = refl
 of_none Responder Responder = refl
-
-message_of : (kind : Exchange) (m : List ℕ) → message_in (content_of kind m) ≡ Some m
-message_of exchange.Am m = refl
-message_of exchange.Req m = refl
-message_of exchange.Ack m = refl
 
 -- what is taken is what the model takes
 first_takes : (kind : Exchange) (sn : SequenceNumber) (ec : ExecutionCycle) (m : List ℕ) → (kind ≡ exchange.Ack → ⊥) → model.Takes (tel (kind_of (content_of kind m)) sn ec) (first_deed kind sn ec)
@@ -255,7 +250,7 @@ module _ (sheets : Sheets) (v : (r : Role) → InRange (sheets r)) (s : Role) (c
         took = g.took;
         telegram = g.taken.telegram;
         carries = g.taken.carries;
-        says = ap message_in g.taken.content ∙ message_of g.kind g.taken.message ∙ ap Some (sym g.message ∙ a.got);
+        says = ap message_in g.taken.content ∙ content_message g.kind g.taken.message ∙ ap Some (sym g.message ∙ a.got);
         some = subst (λ l. 0 < length l) a.got g.some;
         word = u.word;
         reads = u.reads;

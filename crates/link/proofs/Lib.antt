@@ -1,3 +1,4 @@
+pub mod Apart
 pub mod Seats
 pub mod Origins
 pub mod Deeds

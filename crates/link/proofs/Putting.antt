@@ -37,6 +37,7 @@ use Rattle.ends.specs.Effects.{release_frame, risen, words_by, sent_content, tic
 use Rattle.ends.specs.Calls.{said, opening_put, stop_put}
 use Rattle.link.specs.Law.{Carries}
 use Rattle.link.proofs.Reading.{cond_second, carries_one}
+use Rattle.link.proofs.Apart.{none_some}
 
 -- ---- a sealed telegram is carried, and no other
 
@@ -92,22 +93,19 @@ no_other (dt towards telegram code) t n c = n
 put_other : (f : FrameValue) (x : List ℕ) (t : TelegramValue) → NoData f → Some (bytes_of f) ≡ Some x → Carries x t → ⊥
 put_other f x t n e c = let same : x ≡ bytes_of f = cc in no_other f t n (subst (λ s. Carries s t) same c)
 
-none_put : {A : Type 0} (x : List ℕ) → None ≡ Some x → A
-none_put x e = let z : ◌≡◌ {A = ℕ} 0 1 = cc in absurd (omega arith)
-
 pub opening_carries : (first : State) (x : List ℕ) (t : TelegramValue) → opening_put first ≡ Some x → Carries x t → ⊥
 opening_carries (state.WaitAu2 rb rc) x t e c = put_other (au1 rb) x t tt e c
-opening_carries (state.WaitAr ra rb rc) x t e c = none_put x e
-opening_carries (state.Listen ra) x t e c = none_put x e
-opening_carries (state.WaitAu3 ra rb) x t e c = none_put x e
-opening_carries (state.WaitEc words) x t e c = none_put x e
-opening_carries (state.WaitFirst words last synced) x t e c = none_put x e
-opening_carries (state.Up words sent last synced) x t e c = none_put x e
-opening_carries (state.Out release) x t e c = none_put x e
+opening_carries (state.WaitAr ra rb rc) x t e c = none_some x e
+opening_carries (state.Listen ra) x t e c = none_some x e
+opening_carries (state.WaitAu3 ra rb) x t e c = none_some x e
+opening_carries (state.WaitEc words) x t e c = none_some x e
+opening_carries (state.WaitFirst words last synced) x t e c = none_some x e
+opening_carries (state.Up words sent last synced) x t e c = none_some x e
+opening_carries (state.Out release) x t e c = none_some x e
 
 pub stop_carries : (e : EndValue) (o : Option Refusal) (x : List ℕ) (t : TelegramValue) → stop_put e o ≡ Some x → Carries x t → ⊥
 stop_carries e None x t h c = put_other (di (far e.role) (reason_codes reason.Stopped)) x t tt h c
-stop_carries e (Some r) x t h c = none_put x h
+stop_carries e (Some r) x t h c = none_some x h
 
 -- ---- data frames that an end puts
 
@@ -179,12 +177,12 @@ sends_up v count sent asks e =
 
 tick_up : (e : EndValue) (message x : List ℕ) (t : TelegramValue) (asks : Bool) (st : State) → InRange e.values → Fit e → tick_way e ≡ tick.Sends asks → e.state ≡ st
     → sent_frame (risen e) asks (said e.values message) st ≡ Some x → Carries x t → TickSent e message x t
-tick_up e message x t asks (state.WaitAu2 rb rc) r fit way is h c = none_put x h
-tick_up e message x t asks (state.WaitAr ra rb rc) r fit way is h c = none_put x h
-tick_up e message x t asks (state.Listen ra) r fit way is h c = none_put x h
-tick_up e message x t asks (state.WaitAu3 ra rb) r fit way is h c = none_put x h
-tick_up e message x t asks (state.WaitEc words) r fit way is h c = none_put x h
-tick_up e message x t asks (state.WaitFirst words last synced) r fit way is h c = none_put x h
+tick_up e message x t asks (state.WaitAu2 rb rc) r fit way is h c = none_some x h
+tick_up e message x t asks (state.WaitAr ra rb rc) r fit way is h c = none_some x h
+tick_up e message x t asks (state.Listen ra) r fit way is h c = none_some x h
+tick_up e message x t asks (state.WaitAu3 ra rb) r fit way is h c = none_some x h
+tick_up e message x t asks (state.WaitEc words) r fit way is h c = none_some x h
+tick_up e message x t asks (state.WaitFirst words last synced) r fit way is h c = none_some x h
 tick_up e message x t asks (state.Up words sent last synced) r fit way is h c =
     let up = up_fit e words sent last synced fit is in
     let low = fit.0 in
@@ -212,14 +210,14 @@ tick_up e message x t asks (state.Up words sent last synced) r fit way is h c =
       asks_is = s.asks_is;
       awaited = s.awaited;
     }
-tick_up e message x t asks (state.Out release) r fit way is h c = none_put x h
+tick_up e message x t asks (state.Out release) r fit way is h c = none_some x h
 
 tick_by : (e : EndValue) (message x : List ℕ) (t : TelegramValue) (way : TickWay) → InRange e.values → Fit e → tick_way e ≡ way
     → tick_put e way (said e.values message) ≡ Some x → Carries x t → TickSent e message x t
 tick_by e message x t tick.UsedUp r fit is h c = absurd (put_other (di (far e.role) (reason_codes reason.CounterUsedUp)) x t tt h c)
 tick_by e message x t tick.Abandons r fit is h c = absurd (put_other bare_di x t tt h c)
 tick_by e message x t (tick.Releases why) r fit is h c = absurd (put_other (di (far e.role) (reason_codes why)) x t tt h c)
-tick_by e message x t tick.Silent r fit is h c = none_put x h
+tick_by e message x t tick.Silent r fit is h c = none_some x h
 tick_by e message x t (tick.Sends asks) r fit is h c = tick_up e message x t asks e.state r fit is refl h c
 
 pub tick_carries : (e : EndValue) (message x : List ℕ) (t : TelegramValue) → InRange e.values → Fit e
@@ -298,73 +296,73 @@ put_start_data e word x t r fit h c =
     put_data e word 0 (ec_start e.values.version e.values.period.0) x t (omega arith) fit.0 (omega arith) (omega arith) h c
 
 au2_never : (rb : ℕ) (st : State) (x : List ℕ) (t : TelegramValue) → put_au2 rb st ≡ Some x → Carries x t → ⊥
-au2_never rb (state.WaitAu2 a b) x t h c = none_put x h
-au2_never rb (state.WaitAr ra a b) x t h c = none_put x h
+au2_never rb (state.WaitAu2 a b) x t h c = none_some x h
+au2_never rb (state.WaitAr ra a b) x t h c = none_some x h
 au2_never rb (state.Listen ra) x t h c = put_other (au2 (bit_xor ra rb)) x t tt h c
-au2_never rb (state.WaitAu3 a b) x t h c = none_put x h
-au2_never rb (state.WaitEc words) x t h c = none_put x h
-au2_never rb (state.WaitFirst words last synced) x t h c = none_put x h
-au2_never rb (state.Up words sent last synced) x t h c = none_put x h
-au2_never rb (state.Out release) x t h c = none_put x h
+au2_never rb (state.WaitAu3 a b) x t h c = none_some x h
+au2_never rb (state.WaitEc words) x t h c = none_some x h
+au2_never rb (state.WaitFirst words last synced) x t h c = none_some x h
+au2_never rb (state.Up words sent last synced) x t h c = none_some x h
+au2_never rb (state.Out release) x t h c = none_some x h
 
 au3_never : (ra : ℕ) (st : State) (x : List ℕ) (t : TelegramValue) → put_au3 ra st ≡ Some x → Carries x t → ⊥
 au3_never ra (state.WaitAu2 rb rc) x t h c = put_other (au3 (bit_xor ra rc)) x t tt h c
-au3_never ra (state.WaitAr a rb rc) x t h c = none_put x h
-au3_never ra (state.Listen a) x t h c = none_put x h
-au3_never ra (state.WaitAu3 a rb) x t h c = none_put x h
-au3_never ra (state.WaitEc words) x t h c = none_put x h
-au3_never ra (state.WaitFirst words last synced) x t h c = none_put x h
-au3_never ra (state.Up words sent last synced) x t h c = none_put x h
-au3_never ra (state.Out release) x t h c = none_put x h
+au3_never ra (state.WaitAr a rb rc) x t h c = none_some x h
+au3_never ra (state.Listen a) x t h c = none_some x h
+au3_never ra (state.WaitAu3 a rb) x t h c = none_some x h
+au3_never ra (state.WaitEc words) x t h c = none_some x h
+au3_never ra (state.WaitFirst words last synced) x t h c = none_some x h
+au3_never ra (state.Up words sent last synced) x t h c = none_some x h
+au3_never ra (state.Out release) x t h c = none_some x h
 
 ar_never : (st : State) (x : List ℕ) (t : TelegramValue) → put_ar st ≡ Some x → Carries x t → ⊥
-ar_never (state.WaitAu2 rb rc) x t h c = none_put x h
-ar_never (state.WaitAr ra rb rc) x t h c = none_put x h
-ar_never (state.Listen ra) x t h c = none_put x h
+ar_never (state.WaitAu2 rb rc) x t h c = none_some x h
+ar_never (state.WaitAr ra rb rc) x t h c = none_some x h
+ar_never (state.Listen ra) x t h c = none_some x h
 ar_never (state.WaitAu3 ra rb) x t h c = put_other (ar rb) x t tt h c
-ar_never (state.WaitEc words) x t h c = none_put x h
-ar_never (state.WaitFirst words last synced) x t h c = none_put x h
-ar_never (state.Up words sent last synced) x t h c = none_put x h
-ar_never (state.Out release) x t h c = none_put x h
+ar_never (state.WaitEc words) x t h c = none_some x h
+ar_never (state.WaitFirst words last synced) x t h c = none_some x h
+ar_never (state.Up words sent last synced) x t h c = none_some x h
+ar_never (state.Out release) x t h c = none_some x h
 
 put_in_ar : (e : EndValue) (st : State) (x : List ℕ) (t : TelegramValue) → InRange e.values → Fit e → e.state ≡ st → put_first_start e st ≡ Some x → Carries x t
     → SentInAr e fetch.AnswersAr x t
-put_in_ar e (state.WaitAu2 rb rc) x t r fit is h c = none_put x h
+put_in_ar e (state.WaitAu2 rb rc) x t r fit is h c = none_some x h
 put_in_ar e (state.WaitAr ra rb rc) x t r fit is h c =
     let d = put_start_data e (words_by e.values ra rc).write x t r fit h c in
     record { ra = ra; rb = rb; rc = rc; state_is = is; way_is = refl; telegram_is = d.telegram_is; bears = d.bears }
-put_in_ar e (state.Listen ra) x t r fit is h c = none_put x h
-put_in_ar e (state.WaitAu3 ra rb) x t r fit is h c = none_put x h
-put_in_ar e (state.WaitEc words) x t r fit is h c = none_put x h
-put_in_ar e (state.WaitFirst words last synced) x t r fit is h c = none_put x h
-put_in_ar e (state.Up words sent last synced) x t r fit is h c = none_put x h
-put_in_ar e (state.Out release) x t r fit is h c = none_put x h
+put_in_ar e (state.Listen ra) x t r fit is h c = none_some x h
+put_in_ar e (state.WaitAu3 ra rb) x t r fit is h c = none_some x h
+put_in_ar e (state.WaitEc words) x t r fit is h c = none_some x h
+put_in_ar e (state.WaitFirst words last synced) x t r fit is h c = none_some x h
+put_in_ar e (state.Up words sent last synced) x t r fit is h c = none_some x h
+put_in_ar e (state.Out release) x t r fit is h c = none_some x h
 
 put_in_ec : (e : EndValue) (role : Role) (st : State) (sn : SequenceNumber) (ec : ExecutionCycle) (x : List ℕ) (t : TelegramValue) → InRange e.values → Fit e → e.role ≡ role
     → e.state ≡ st → put_start e role st ≡ Some x → Carries x t → SentInEc e (fetch.Starts sn ec) x t
-put_in_ec e Initiator st sn ec x t r fit who is h c = none_put x h
-put_in_ec e Responder (state.WaitAu2 rb rc) sn ec x t r fit who is h c = none_put x h
-put_in_ec e Responder (state.WaitAr ra rb rc) sn ec x t r fit who is h c = none_put x h
-put_in_ec e Responder (state.Listen ra) sn ec x t r fit who is h c = none_put x h
-put_in_ec e Responder (state.WaitAu3 ra rb) sn ec x t r fit who is h c = none_put x h
+put_in_ec e Initiator st sn ec x t r fit who is h c = none_some x h
+put_in_ec e Responder (state.WaitAu2 rb rc) sn ec x t r fit who is h c = none_some x h
+put_in_ec e Responder (state.WaitAr ra rb rc) sn ec x t r fit who is h c = none_some x h
+put_in_ec e Responder (state.Listen ra) sn ec x t r fit who is h c = none_some x h
+put_in_ec e Responder (state.WaitAu3 ra rb) sn ec x t r fit who is h c = none_some x h
 put_in_ec e Responder (state.WaitEc words) sn ec x t r fit who is h c =
     let d = put_start_data e words.write x t r fit h c in
     record { words = words; sn = sn; ec = ec; role_is = who; state_is = is; way_is = refl; telegram_is = d.telegram_is; bears = d.bears }
-put_in_ec e Responder (state.WaitFirst words last synced) sn ec x t r fit who is h c = none_put x h
-put_in_ec e Responder (state.Up words sent last synced) sn ec x t r fit who is h c = none_put x h
-put_in_ec e Responder (state.Out release) sn ec x t r fit who is h c = none_put x h
+put_in_ec e Responder (state.WaitFirst words last synced) sn ec x t r fit who is h c = none_some x h
+put_in_ec e Responder (state.Up words sent last synced) sn ec x t r fit who is h c = none_some x h
+put_in_ec e Responder (state.Out release) sn ec x t r fit who is h c = none_some x h
 
 put_in_first : (e : EndValue) (words : Words) (last : SequenceNumber) (synced : ExecutionCycle) (kind : Exchange) (sn : SequenceNumber) (ec : ExecutionCycle) (x : List ℕ) (t : TelegramValue)
     → Fit e → e.state ≡ state.WaitFirst words last synced → answer_first e words.write kind ≡ Some x → Carries x t → SentInFirst e (fetch.Takes kind sn ec) x t
-put_in_first e words last synced exchange.Am sn ec x t fit is h c = none_put x h
+put_in_first e words last synced exchange.Am sn ec x t fit is h c = none_some x h
 put_in_first e words last synced exchange.Req sn ec x t fit is h c =
     let d = put_data e words.write 1 (am_ack []) x t (omega arith) fit.0 tt (omega arith) h c in
     record { words = words; last = last; synced = synced; sn = sn; ec = ec; state_is = is; way_is = refl; telegram_is = d.telegram_is; bears = d.bears }
-put_in_first e words last synced exchange.Ack sn ec x t fit is h c = none_put x h
+put_in_first e words last synced exchange.Ack sn ec x t fit is h c = none_some x h
 
 put_in_up : (e : EndValue) (words : Words) (sent last : SequenceNumber) (synced : ExecutionCycle) (kind : Exchange) (sn : SequenceNumber) (ec : ExecutionCycle) (x : List ℕ) (t : TelegramValue)
     → Fit e → e.state ≡ state.Up words sent last synced → answer_up e words.write sent kind ≡ Some x → Carries x t → SentInUp e (fetch.Takes kind sn ec) x t
-put_in_up e words sent last synced exchange.Am sn ec x t fit is h c = none_put x h
+put_in_up e words sent last synced exchange.Am sn ec x t fit is h c = none_some x h
 put_in_up e words sent last synced exchange.Req sn ec x t fit is h c =
     let up = up_fit e words sent last synced fit is in
     let same : cond (eqb sent.0 greatest) (release_frame e reason.CounterUsedUp) (ack_frame e words.write (sent.0 + 1)) ≡ x = cc in
@@ -386,22 +384,22 @@ put_in_up e words sent last synced exchange.Req sn ec x t fit is h c =
       telegram_is = d.telegram_is;
       bears = d.bears;
     }
-put_in_up e words sent last synced exchange.Ack sn ec x t fit is h c = none_put x h
+put_in_up e words sent last synced exchange.Ack sn ec x t fit is h c = none_some x h
 
 put_answer : (e : EndValue) (kind : Exchange) (st : State) (sn : SequenceNumber) (ec : ExecutionCycle) (x : List ℕ) (t : TelegramValue) → Fit e → e.state ≡ st
     → put_telegram e kind st ≡ Some x → Carries x t → FetchSent e (fetch.Takes kind sn ec) x t
-put_answer e kind (state.WaitAu2 rb rc) sn ec x t fit is h c = none_put x h
-put_answer e kind (state.WaitAr ra rb rc) sn ec x t fit is h c = none_put x h
-put_answer e kind (state.Listen ra) sn ec x t fit is h c = none_put x h
-put_answer e kind (state.WaitAu3 ra rb) sn ec x t fit is h c = none_put x h
-put_answer e kind (state.WaitEc words) sn ec x t fit is h c = none_put x h
+put_answer e kind (state.WaitAu2 rb rc) sn ec x t fit is h c = none_some x h
+put_answer e kind (state.WaitAr ra rb rc) sn ec x t fit is h c = none_some x h
+put_answer e kind (state.Listen ra) sn ec x t fit is h c = none_some x h
+put_answer e kind (state.WaitAu3 ra rb) sn ec x t fit is h c = none_some x h
+put_answer e kind (state.WaitEc words) sn ec x t fit is h c = none_some x h
 put_answer e kind (state.WaitFirst words last synced) sn ec x t fit is h c = sent_in_first (put_in_first e words last synced kind sn ec x t fit is h c)
 put_answer e kind (state.Up words sent last synced) sn ec x t fit is h c = sent_in_up (put_in_up e words sent last synced kind sn ec x t fit is h c)
-put_answer e kind (state.Out release) sn ec x t fit is h c = none_put x h
+put_answer e kind (state.Out release) sn ec x t fit is h c = none_some x h
 
 pub fetch_carries : (e : EndValue) (way : FetchWay) (x : List ℕ) (t : TelegramValue) → InRange e.values → Fit e → fetch_put e way ≡ Some x → Carries x t → FetchSent e way x t
-fetch_carries e fetch.Drops x t r fit h c = none_put x h
-fetch_carries e (fetch.LeftByFar codes) x t r fit h c = none_put x h
+fetch_carries e fetch.Drops x t r fit h c = none_some x h
+fetch_carries e (fetch.LeftByFar codes) x t r fit h c = none_some x h
 fetch_carries e (fetch.Releases why) x t r fit h c = absurd (put_other (di (far e.role) (reason_codes why)) x t tt h c)
 fetch_carries e (fetch.AnswersAu1 rb) x t r fit h c = absurd (au2_never rb e.state x t h c)
 fetch_carries e (fetch.AnswersAu2 ra) x t r fit h c = absurd (au3_never ra e.state x t h c)

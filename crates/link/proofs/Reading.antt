@@ -604,7 +604,7 @@ pub record Started (e : EndValue) (x : List ℕ) (sn : SequenceNumber) (ec : Exe
   pub ec_is : telegram.ec ≡ ec.0
   pub content : telegram.content ≡ ec_start e.values.version e.values.period.0
 
-content_message : (kind : Exchange) (m : List ℕ) → message_in (content_of kind m) ≡ Some m
+pub content_message : (kind : Exchange) (m : List ℕ) → message_in (content_of kind m) ≡ Some m
 content_message exchange.Am m = refl
 content_message exchange.Req m = refl
 content_message exchange.Ack m = refl

@@ -24,9 +24,7 @@ use Rattle.link.proofs.Fetching.{Heard}
 use Rattle.link.proofs.Moving.{moves}
 use Rattle.link.proofs.Fits.{fits}
 use Rattle.link.proofs.Telling.{puts_it}
-
-none_some : {A X : Type 0} (x : X) → ◌≡◌ {A = Option X} None (Some x) → A
-none_some x h = let z : ◌≡◌ {A = ℕ} 0 1 = cc in absurd (omega arith)
+use Rattle.link.proofs.Apart.{none_some}
 
 -- what a fetch took was in the list of its side
 taken_listed : (m : Moment) (t : Fetch m) (x : List ℕ) → m.took ≡ Some x → Memᴰ x (m.before.carrier.strings t.e.role)

@@ -1,5 +1,5 @@
 -- The synchronising telegrams of a run are those of the model.
-use Rattle.std.proofs.Common.{◌≡◌, ℕ, Bool, true, false, eqb, ◌⊎◌, List, length, take, Some, None, Option, sym, refl, ap, ◌∙◌, subst, inl, inr, ⊎_elim, arith}
+use Rattle.std.proofs.Common.{◌≡◌, ℕ, Bool, true, false, eqb, ◌⊎◌, List, length, take, Some, None, Option, sym, refl, ap, ◌∙◌, subst, inl, inr, ⊎_elim}
 use Rattle.std.proofs.lemmas.Bool.{cond_both}
 use Rattle.terms.specs.declared.refusal.Refusal.{Refusal}
 use Rattle.terms.specs.declared.role.Role.{Role}
@@ -29,9 +29,7 @@ use Rattle.model.specs.Model as model
 use Rattle.link.proofs.Deeds.{kind_of, tel_of, tel, silent_deed, tick_deed, start_deed, first_deed, up_deed, fetch_deed, took_deed, stop_deed, seat_deed, deed_of}
 use Rattle.link.proofs.Reading.{Taken, FirstSpot, UpSpot, content_of, takes_is, starts_is}
 use Rattle.link.proofs.Fetching.{told}
-
-none_some : {A X : Type 0} (x : X) → ◌≡◌ {A = Option X} None (Some x) → A
-none_some x h = let z : ◌≡◌ {A = ℕ} 0 1 = cc in absurd (omega arith)
+use Rattle.link.proofs.Apart.{none_some}
 
 -- what a fetch took is bytes
 pub took_bytes : (m : Moment) (t : Fetch m) (x : List ℕ) → m.took ≡ Some x → Bytes x

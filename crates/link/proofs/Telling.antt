@@ -1,5 +1,5 @@
 -- A data frame that a call puts, as the model has it.
-use Rattle.std.proofs.Common.{◌≡◌, ℕ, ◌+◌, Bool, true, false, cond, List, length, take, Some, None, Option, sym, ap, ◌∙◌, subst, arith}
+use Rattle.std.proofs.Common.{◌≡◌, ℕ, ◌+◌, Bool, true, false, cond, List, length, take, Some, None, Option, sym, ap, ◌∙◌, subst}
 use Rattle.terms.specs.declared.refusal.Refusal.{Refusal}
 use Rattle.terms.specs.declared.role.Role.{Role}
 use Rattle.terms.specs.declared.role.Role.TheVariants.{Initiator, Responder}
@@ -23,9 +23,7 @@ use Rattle.link.proofs.Deeds.{tel_of, tel, start_deed, fetch_deed, tick_deed, ti
 use Rattle.link.proofs.Ticking.{message_one}
 use Rattle.link.proofs.Putting.{Fit, tick_carries, FetchSent, sent_in_ar, sent_in_ec, sent_in_first, sent_in_up, fetch_carries, opening_carries, stop_carries}
 use Rattle.link.proofs.Fits.{FitSeat}
-
-none : {A : Type 0} (x : List ℕ) → None ≡ Some x → A
-none x e = let z : ◌≡◌ {A = ℕ} 0 1 = cc in absurd (omega arith)
+use Rattle.link.proofs.Apart.{none_some}
 
 -- the model's numbers are the end's
 same : (k : model.Kind) (n m p q : ℕ) → n ≡ m → p ≡ q → ◌≡◌ {A = Tel} record { kind = k; sn = m; ec = q } record { kind = k; sn = n; ec = p }
@@ -42,7 +40,7 @@ tick_puts_it m message t a x g v fit h k c = go (tick_refusal t.e m.before.carri
   where
     go : (o : Option Refusal) → Ticked o t.e t.e' m.before.carrier m.after.carrier message t.out t.out' m.answer → m.put ≡ tick_puts o t.e message
         → Puts (tel_of g) a (ticked_deed t.e (ticked m.answer.refused))
-    go (Some y) d p = none x (sym p ∙ k)
+    go (Some y) d p = none_some x (sym p ∙ k)
     go None d p =
         let one : ticked m.answer.refused ≡ 1 = ap (λ r. ticked r.refused) d.answer ∙ message_one t.e.values (length message) t.e'.state in
         let s = tick_carries t.e message x g v fit (sym p ∙ k) c in
@@ -74,13 +72,13 @@ fetch_puts_it : (m : Moment) (t : Fetch m) (a : Shape) (x : List ℕ) (g : Teleg
 fetch_puts_it m t a x g v fit h k c = go (fetch_refusal t.e m.before.carrier.largest (length t.buf) (length t.out)) t.call
   where
     came : (o : Option ℕ) → m.took ≡ came_string t.buf' o → m.put ≡ fetch_put t.e (came_way t.e t.buf' o) → Puts (tel_of g) a (took_deed t.e m.took)
-    came None k' p = none x (sym p ∙ k)
+    came None k' p = none_some x (sym p ∙ k)
     came (Some n) k' p =
         subst (λ o. Puts (tel_of g) a (took_deed t.e o)) (sym k')
         (way_puts t.e a x g (fetch_way t.e (take n t.buf')) h (fetch_carries t.e (fetch_way t.e (take n t.buf')) x g v fit (sym p ∙ k) c))
 
     go : (o : Option Refusal) → FetchDoes o m t.e t.e' t.buf t.buf' t.out t.out' → Puts (tel_of g) a (took_deed t.e m.took)
-    go (Some y) d = none x (sym d.2 ∙ k)
+    go (Some y) d = none_some x (sym d.2 ∙ k)
     go None d = came d.0.came d.1 d.2
 
 stop_puts_none : {A : Type 0} (m : Moment) (t : Stop m) (x : List ℕ) (g : TelegramValue) → m.put ≡ Some x → Carries x g → A
@@ -88,7 +86,7 @@ stop_puts_none {A} m t x g k c = go t.held t.call
   where
     go : (b : Bool) → StopDoes b m t.e t.e' → A
     go true d = absurd (stop_carries t.e (out_refusal t.e.state) x g (sym d.1 ∙ k) c)
-    go false d = none x (sym d.3 ∙ k)
+    go false d = none_some x (sym d.3 ∙ k)
 
 -- a data frame that a call puts is put by its deed
 pub puts_it : (sheets : Sheets) → ((s : Role) → InRange (sheets s)) → (m : Moment) (a : Shape) (d : Deed) → Does sheets m d → Seated sheets m.role (seat m.role m.before)

@@ -66,10 +66,12 @@ impl Seats {
             &mut out,
         )?;
         // a refusal is of the carrier or the buffer, and the first opening had the same two
-        let Ok(responder) = Seat::open(sheet.responder, ResponderNumbers { ra }, carrier, &mut out)
-        else {
-            unreachable()
-        };
+        let responder = Seat::open(
+            sheet.responder,
+            ResponderNumbers { ra },
+            carrier,
+            &mut out,
+        ).unwrap();
         Ok(Seats(Sides {
             initiator,
             responder,

@@ -44,10 +44,9 @@ impl Seat {
     ) -> Result<Seat, Refusal>
         ensures { OpensSeat params.values N.role (N.first numbers) (C.meaning carrier.old) (C.meaning carrier.new) out.old out.new result }
     {
-        match End::open(params, numbers, carrier, out) {
-            Ok(opened) => Ok(Seat::new(opened)),
-            Err(closed) => Err(closed.refusal),
-        }
+        End::open(params, numbers, carrier, out)
+            .map(Seat::new)
+            .map_err(|closed| closed.refusal)
     }
 
     // A script's stop: a second one is refused.

@@ -15,10 +15,7 @@ fn read(rt: &HostRuntime, example: &str, file: &str) -> anyhow::Result<Vec<u8>> 
 fn listed(rt: &HostRuntime, example: &str) -> anyhow::Result<String> {
     let sheet = read(rt, example, "sheet")?;
     let script = read(rt, example, "script")?;
-    match printed(rt.alloc(), sheet.as_slice(), script.as_slice()) {
-        Ok(text) => Ok(text),
-        Err(_) => Err(anyhow!("no memory")),
-    }
+    printed(rt.alloc(), sheet.as_slice(), script.as_slice()).map_err(|_| anyhow!("no memory"))
 }
 
 fn compare(rt: &HostRuntime, example: &str) -> anyhow::Result<()> {
@@ -32,13 +29,9 @@ fn compare(rt: &HostRuntime, example: &str) -> anyhow::Result<()> {
     Ok(())
 }
 
-fn run(rt: &HostRuntime) -> anyhow::Result<()> {
-    for example in env::args(rt)?.skip(1) {
-        compare(rt, example.as_str())?;
+fn main(rt: HostRuntime) -> anyhow::Result<()> {
+    for example in env::args(&rt)?.skip(1) {
+        compare(&rt, example.as_str())?;
     }
     Ok(())
-}
-
-fn main(rt: HostRuntime) -> anyhow::Result<()> {
-    run(&rt)
 }

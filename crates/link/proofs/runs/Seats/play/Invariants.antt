@@ -1,4 +1,4 @@
-use Rattle.std.proofs.Common.{◌≡◌, map, length, take, vec_items}
+use Rattle.std.proofs.Common.{map, take, vec_items}
 use Rattle.link.specs.Seats.{link_value, Played}
 use Rattle.link.specs.Tells.{told_by}
 use Rattle.link.proofs.runs.Seats.play.Given as goal
