@@ -108,7 +108,7 @@ fn owned(heap: Global, call: Call<&[u8]>) -> Result<Call<Vec<u8>>, AllocError>
     })
 }
 
-// The call that a text begins with, which is the giving line of the script.
+// The call that a text begins with, which is the given line of the script.
 fn read_call(heap: Global, text: &[u8], line: u16) -> Result<Call<Vec<u8>>, ScriptError>
     ensures { Answers said (read_call line text.now) (is_ok (read_call line text.now) ≡ true) result }
 {
