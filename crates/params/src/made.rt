@@ -24,7 +24,6 @@ fn keeps(n: u32, column: Column) -> Result<(), LineFault>
 }
 
 // That a value lies as far below zero as its column's range says. The tests are of two kinds of numbers, so each has its own function.
-#[tactic(auto, using(std::proofs::lemmas::Int::ints, std::proofs::lemmas::Bool::Decides::nat_tests))]
 fn keeps_below(z: i64, column: Column) -> Result<(), LineFault>
     ensures answer { result ≡ kept_below column z }
     ensures inside { OnOk result (KeepsBelow column z) }
