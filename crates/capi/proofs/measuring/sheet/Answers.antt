@@ -3,6 +3,6 @@ use lib.Count.{ones}
 use Rattle.capi.proofs.measuring.sheet.Goals as goal
 
 -- the bits of 3F, counted
-pub unreachable-requires : goal.unreachable-requires
+pub unwrap-requires : goal.unwrap-requires
 unfolding ones
-unreachable-requires c = search rules
+unwrap-requires c = search rules
