@@ -209,8 +209,9 @@ impl Layout for Frame<'_> {
     fn check(&self) -> Result<(), Refusal> {
         match self {
             Frame::Dt { telegram, code, .. }
-                if telegram.len() < 9 || 9 + LONGEST_MESSAGE < telegram.len() || code.len() != 8 =>
-                { Err(Refusal::FrameLength) }
+                if !(9..=9 + LONGEST_MESSAGE).contains(&telegram.len()) || code.len() != 8 => {
+                Err(Refusal::FrameLength)
+            }
             _ => Ok(()),
         }
     }

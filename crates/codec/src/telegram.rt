@@ -2,7 +2,7 @@
 ghost use Rattle.std.specs.Prelude.{◌≡◌, ◌+◌, ◌^◌, ◌<◌, ◌≤◌, ◌++◌, length, Ok};
 ghost use Rattle.terms.specs.Buffers.{put_after};
 ghost use Rattle.terms.specs.declared.refusal.Refusal.TheVariants as refusal;
-ghost use Rattle.codec.specs.Telegrams.{content_value, telegram_value, telegram_values, content_type, content_bytes, header, telegram_bytes, read_start, read_content, read_telegram, body_fits, telegram_answer, telegram_after};
+ghost use Rattle.codec.specs.Telegrams.{content_value, telegram_value, telegram_values, content_type, content_bytes, header, telegram_bytes, read_content, read_telegram, body_fits, telegram_answer, telegram_after};
 ghost use Rattle.codec.specs.TelegramLaws.{Proper, TelegramJudged, TelegramBack};
 
 use terms::counters::{ExecutionCycle, SequenceNumber};
@@ -33,29 +33,18 @@ pub struct Telegram<'a> {
     pub content: Content<'a>,
 }
 
-fn start_from(body: &[u8]) -> Content<'_>
-    ensures { content_value result ≡ read_start body.now }
-{
-    match body {
-        [version, a, b] => Content::EcStart {
-            version: *version,
-            period: u16::from_be_bytes([*a, *b]),
-        },
-        _ => Content::Other {
-            type_byte: 0x81,
-            body,
-        },
-    }
-}
-
+// An ECStart of another length is kept as it is, by its own byte.
 fn content_from(type_byte: u8, body: &[u8]) -> Content<'_>
     ensures { content_value result ≡ read_content type_byte body.now }
 {
-    match type_byte {
-        0x81 => start_from(body),
-        0x86 => Content::Am(body),
-        0x87 => Content::AmReq(body),
-        0x88 => Content::AmAck(body),
+    match (type_byte, body) {
+        (0x81, [version, a, b]) => Content::EcStart {
+            version: *version,
+            period: u16::from_be_bytes([*a, *b]),
+        },
+        (0x86, _) => Content::Am(body),
+        (0x87, _) => Content::AmReq(body),
+        (0x88, _) => Content::AmAck(body),
         _ => Content::Other { type_byte, body },
     }
 }
