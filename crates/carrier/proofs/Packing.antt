@@ -5,6 +5,7 @@ use Rattle.std.specs.List.{flat_map, remove}
 use Rattle.std.proofs.lemmas.List.{take_at, drop_at, drop-drop, flat_map_more, length_push, take-append-drop, length-take-le, get_or_append_left, get_or_push, get_or_at, get_or-append-add, take_more, length-drop}
 use Rattle.std.proofs.lemmas.List.Concat.{flat_map-append}
 use Rattle.std.proofs.lemmas.List.Edits.{length-remove, get_or-remove_below, get_or-remove_above, take-paste, drop-paste, length-paste}
+use Rattle.std.proofs.Math.Seq.{split_at}
 use Rattle.std.proofs.lemmas.Slice.{take-put_mid, drop-put_mid}
 use Rattle.std.specs.Int.{to_be_bytes, w16}
 use lib.Seq.{paste}
@@ -120,11 +121,7 @@ holding_push memory memory' s used count w le sh l e =
     (short_push ss s sh l)
 
 joined_at : (ss : Strings) (k : ℕ) → k < length ss → flat_map packed ss ≡ flat_map packed (take k ss) ++ (packed (get_or ss k []) ++ flat_map packed (drop (suc k) ss))
-joined_at [] k lt = absurd (omega arith)
-joined_at (s ∷ ss) zero lt = refl
-joined_at (s ∷ ss) (suc k) lt =
-    ap (λ z. packed s ++ z) (joined_at ss k (omega arith))
-    ∙ sym (append_assoc (packed s) (flat_map packed (take k ss)) (packed (get_or ss k []) ++ flat_map packed (drop (suc k) ss)))
+joined_at ss k lt = ap (flat_map packed) (split_at ss k [] lt) ∙ flat_map-append packed (take k ss) (get_or ss k [] ∷ drop (suc k) ss)
 
 pub short_removed : (ss : Strings) (k : ℕ) → k < length ss → Short ss → Short (remove ss k)
 short_removed ss k lt h j jt =
