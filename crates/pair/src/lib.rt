@@ -41,9 +41,7 @@ fn put_packet<C: Carrier>(
     ensures exact { C.putting carrier.old from (packet_bytes (packet_value packet.entry) cable) result carrier.new }
 {
     let mut bytes = [0u8; GREATEST_LENGTH];
-    let Ok(n) = packet.write(cable, &mut bytes) else {
-        unreachable()
-    };
+    let n = packet.write(cable, &mut bytes).unwrap();
     carrier.put(from, &bytes[..n])
 }
 
