@@ -100,9 +100,10 @@ fn compare(x: u64, wanted: Option<u64>) -> Verdict
 }
 
 impl Session {
-    // Nothing is known but the parties.
-    fn unheard(parties: Option<Parties>) -> Session
-        ensures { result ≡ begun parties }
+    // Before any frame has passed. `tells` is what the frames of an opening then make known.
+    pub fn new(parties: Option<Parties>) -> Session
+        ensures value { result ≡ begun parties }
+        ensures tells { OpeningTells }
     {
         Session {
             parties,
@@ -110,14 +111,6 @@ impl Session {
             rb: None,
             rc: None,
         }
-    }
-
-    // Before any frame has passed. `tells` is what the frames of an opening then make known.
-    pub fn new(parties: Option<Parties>) -> Session
-        ensures value { result ≡ begun parties }
-        ensures tells { OpeningTells }
-    {
-        Session::unheard(parties)
     }
 
     // The word of the frames that the receiver is to accept.
@@ -177,7 +170,7 @@ impl Session {
                 telegram,
                 ..
             } => {
-                let Some(word) = word else { unreachable() };
+                let word = word.unwrap();
                 Ok(Finding::Dt {
                     towards,
                     telegram: Telegram::read(telegram)?,

@@ -1,5 +1,5 @@
 // What is printed of a frame, a packet, and the sum.
-use super::session::{Envelope, Finding, Verdict};
+use super::session::{Envelope, Finding, Unwrapped, Verdict};
 use super::tally::Tally;
 use codec::telegram::{Content, Telegram};
 use std::fmt;
@@ -42,10 +42,9 @@ struct Way(Role);
 
 impl fmt::Display for Way {
     fn fmt<W: fmt::Write>(&self, f: &mut fmt::Formatter<W>) -> fmt::Result {
-        match self.0 {
-            Role::Responder => f.write_str("I->R"),
-            Role::Initiator => f.write_str("R->I"),
-        }
+        let towards = self.0;
+        let from = towards.far();
+        write!(f, "{from}->{towards}")
     }
 }
 
@@ -129,19 +128,27 @@ impl fmt::Display for Finding<'_> {
     }
 }
 
-// What a frame says, or that it is refused.
+// What a frame or a packet says, or that it is refused.
 #[derive(Clone, Copy)]
-pub struct Answer<'a>(pub Result<Finding<'a>, Refusal>);
+pub struct Answer<T>(pub Result<T, Refusal>);
 
-impl fmt::Display for Answer<'_> {
+impl<T: fmt::Display> fmt::Display for Answer<T> {
     fn fmt<W: fmt::Write>(&self, f: &mut fmt::Formatter<W>) -> fmt::Result {
-        match self.0 {
-            Ok(finding) => write!(f, "{finding}"),
+        match &self.0 {
+            Ok(answer) => answer.fmt(f),
             Err(refusal) => {
-                let n = u8::from(refusal);
+                let n = u8::from(*refusal);
                 write!(f, "refused {n}")
             }
         }
+    }
+}
+
+impl fmt::Display for Unwrapped<'_> {
+    fn fmt<W: fmt::Write>(&self, f: &mut fmt::Formatter<W>) -> fmt::Result {
+        let envelope = self.envelope;
+        let answer = Answer(self.frame);
+        write!(f, "{envelope} frame {answer}")
     }
 }
 
