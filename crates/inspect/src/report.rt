@@ -79,31 +79,27 @@ impl<'a> Report<'a> {
         let number = self.number;
         let finding = self.session.frame(bytes);
         let answer = Answer(finding);
-        if finding.is_err() {
-            println!(self.rt; "{number} frame {answer}")?;
-        } else {
+        if finding.is_ok() {
             let again = frame_again(bytes);
             println!(self.rt; "{number} frame {answer} again={again}")?;
+        } else {
+            println!(self.rt; "{number} frame {answer}")?;
         }
         Ok(Outcome::Frame(Seen::from(finding)))
     }
 
     fn packet_line(&mut self, bytes: &[u8]) -> io::Result<Outcome> {
         let number = self.number;
-        match self.session.packet(bytes) {
-            Ok(unwrapped) => {
-                let envelope = unwrapped.envelope;
-                let answer = Answer(unwrapped.frame);
-                let again = packet_again(bytes, envelope.n_r);
-                println!(self.rt; "{number} packet {envelope} frame {answer} again={again}")?;
-                Ok(Outcome::Packet(Seen::from(unwrapped.frame)))
-            }
-            Err(refusal) => {
-                let n = u8::from(refusal);
-                println!(self.rt; "{number} packet refused {n}")?;
-                Ok(Outcome::Packet(Seen::Refused))
-            }
+        let packet = self.session.packet(bytes);
+        let answer = Answer(packet);
+        if let Ok(unwrapped) = packet {
+            let again = packet_again(bytes, unwrapped.envelope.n_r);
+            println!(self.rt; "{number} packet {answer} again={again}")?;
+        } else {
+            println!(self.rt; "{number} packet {answer}")?;
         }
+        let finding = packet.and_then(|unwrapped| unwrapped.frame);
+        Ok(Outcome::Packet(Seen::from(finding)))
     }
 
     fn crc_line(&self, walk: Walk) -> io::Result<Outcome> {
