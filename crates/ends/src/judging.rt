@@ -39,14 +39,14 @@ impl End {
         ensures value { result ≡ up_way (end_value self.now).values count sent }
         ensures room { (words : Words) (last : SequenceNumber) (synced : ExecutionCycle) → SendsRoom (State.Up words sent last synced) result }
     {
-        let v = self.params.values();
-        let ask = u64::from(v.ask.0);
-        if ask + u64::from(v.wait.0) < count {
+        if u64::from(self.params.up_limit().0) < count {
             TickWay::Releases(Reason::AckTimeout)
         } else if sent.0 == u32::MAX {
             TickWay::Releases(Reason::CounterUsedUp)
         } else {
-            TickWay::Sends { asks: count == ask }
+            TickWay::Sends {
+                asks: count == u64::from(self.params.values().ask.0),
+            }
         }
     }
 
@@ -104,7 +104,7 @@ impl Expectation {
         ensures { result ≡ timely self.now.values (age self.now.count.0 self.now.synced ec) }
     {
         let age = i64::from(self.synced.0) + i64::from(self.count.0) - i64::from(ec.0);
-        self.values.mmin <= age && age <= i64::from(self.values.mmax)
+        (self.values.mmin..=i64::from(self.values.mmax)).contains(&age)
     }
 
     // The number of a telegram: old ones are dropped, those beyond the window release.
@@ -247,10 +247,7 @@ impl End {
         if !is_under(word, s) {
             return FetchWay::Drops;
         }
-        match Telegram::read(telegram) {
-            Ok(telegram) => self.by_telegram(telegram),
-            Err(_) => FetchWay::Drops,
-        }
+        Telegram::read(telegram).map_or(FetchWay::Drops, |telegram| self.by_telegram(telegram))
     }
 
     // The table of state and arriving frame: in the opening the one frame awaited, then data frames, and a release by the far end at any time.
