@@ -6,6 +6,7 @@ ghost use Rattle.codec.specs.Sealing.{sealed};
 ghost use Rattle.codec.specs.Telegrams.{telegram_value, telegram_bytes, content_bytes};
 ghost use Rattle.ends.specs.Ends.{end_value};
 ghost use Rattle.states.specs.States.{in_up};
+ghost use Rattle.ends.specs.Ways.{greatest};
 ghost use Rattle.ends.specs.Effects.{after_tick, after_fetch, after_first, in_state, one_more, risen, released, restarted, started, taken_up, words_by, Numbered, Room};
 
 use super::end::End;
@@ -18,7 +19,7 @@ use terms::role::Role;
 
 impl End {
     fn rise(&mut self)
-        requires { self.old.ec.0 < 4294967295 }
+        requires { self.old.ec.0 < greatest }
         ensures { end_value self.new ≡ risen (end_value self.old) }
     {
         self.ec = ExecutionCycle(self.ec.0 + 1);
