@@ -2,10 +2,10 @@
 ghost use Rattle.std.specs.Prelude.{◌≡◌, ◌≤◌, cond, length, Some, None, nat_lt};
 ghost use Rattle.std.specs.Result.{result_err};
 ghost use Rattle.terms.specs.Numbers.{Bytes};
-ghost use Rattle.ends.specs.Calls.{answer_of, out_refusal, message_refusal, said, Ticks, Fetches, Stops, Puts};
+ghost use Rattle.codec.specs.Frames.{most_data};
+ghost use Rattle.ends.specs.Calls.{answering, answer_of, out_refusal, message_refusal, said, Ticks, Fetches, Stops, Puts};
 ghost use Rattle.ends.specs.Ends.{end_value};
 ghost use Rattle.ends.specs.Steps.{PutStep, TickStep, FetchStep, StopStep};
-ghost use Rattle.states.specs.States.{status_of};
 ghost use Rattle.ends.specs.Ways.{tick_way, fetch_way};
 ghost use Rattle.ends.specs.Effects.{after_tick, after_fetch, tick_put, fetch_put, delivers};
 ghost use Rattle.ends.specs.Puts.{longest_frame, front, put_length, put_into, Fits};
@@ -57,20 +57,15 @@ fn place(way: FetchWay, n: usize) -> Option<Place>
 }
 
 impl End {
-    // The answer by the end's state as it is now.
-    pub(crate) fn answer(
-        &self,
-        refused: Option<Refusal>,
-        delivered: Option<Place>,
-        put: Option<usize>,
-    ) -> Answer
-        ensures { result ≡ record { refused = refused; status = status_of (end_value self.now).state; delivered = delivered; put = put } }
+    // The answer by the end's state as it is now, of a call that was not refused and did nothing.
+    pub(crate) fn idle(&self) -> Answer
+        ensures { result ≡ answering (end_value self.now) None None None }
     {
         Answer {
-            refused,
+            refused: None,
             status: self.state.status(),
-            delivered,
-            put,
+            delivered: None,
+            put: None,
         }
     }
 
@@ -80,7 +75,10 @@ impl End {
     {
         match tried {
             Ok(answer) => answer,
-            Err(refused) => self.answer(Some(refused), None, None),
+            Err(refused) => Answer {
+                refused: Some(refused),
+                ..self.idle()
+            },
         }
     }
 
@@ -99,7 +97,7 @@ impl End {
     // The message that goes out: one that is too long is left out.
     fn said<'a>(&self, message: &'a [u8]) -> &'a [u8]
         ensures value { result.now ≡ said (end_value self.now).values message.now }
-        ensures short { length result.now ≤ 1023 }
+        ensures short { length result.now ≤ most_data }
     {
         if message.len() <= usize::from(self.params.values().longest) {
             message
@@ -150,7 +148,11 @@ impl End {
         self.is_running()?;
         let laid = self.go_on(message, room);
         put(carrier, self.role, laid, room);
-        Ok(self.answer(self.message_refusal(message.len()), None, laid))
+        Ok(Answer {
+            refused: self.message_refusal(message.len()),
+            put: laid,
+            ..self.idle()
+        })
     }
 
     // One tick of the end, with a message, which may be empty.
@@ -196,11 +198,15 @@ impl End {
         };
         self.is_running()?;
         let Some(n) = carrier.fetch(self.role, buf).unwrap() else {
-            return Ok(self.answer(None, None, None));
+            return Ok(self.idle());
         };
         let (delivered, laid) = self.take(&buf[0..n], room);
         put(carrier, self.role, laid, room);
-        Ok(self.answer(None, delivered, laid))
+        Ok(Answer {
+            delivered,
+            put: laid,
+            ..self.idle()
+        })
     }
 
     // Takes what comes out of the carrier, if anything does.
@@ -219,12 +225,15 @@ impl End {
     {
         let StopToken { spent: () } = token;
         if let State::Out(_) = self.state {
-            return self.answer(None, None, None);
+            return self.idle();
         }
         let mut out = [0u8; LONGEST_FRAME];
         let laid = Some(self.lay_release(Reason::Stopped, &mut out));
         self.release(Reason::Stopped);
         put(carrier, self.role, laid, &out);
-        self.answer(None, None, laid)
+        Answer {
+            put: laid,
+            ..self.idle()
+        }
     }
 }

@@ -1,12 +1,13 @@
 // The frames that an end puts, laid into its output buffer.
 ghost use Rattle.std.specs.Prelude.{◌≡◌, ◌<◌, ◌≤◌, true, length};
 ghost use Rattle.terms.specs.Buffers.{overlay};
-ghost use Rattle.codec.specs.Frames.{frame_value, bytes_of, sized};
+ghost use Rattle.codec.specs.Frames.{frame_value, bytes_of, sized, most_data};
 ghost use Rattle.terms.specs.Roles.{far};
 ghost use Rattle.codec.specs.Sealing.{sealed};
-ghost use Rattle.codec.specs.Telegrams.{telegram_bytes, content_bytes, content_value};
+ghost use Rattle.codec.specs.Telegrams.{telegram_bytes, telegram_value, content_bytes, content_value};
 ghost use Rattle.ends.specs.Ends.{end_value};
 ghost use Rattle.ends.specs.Puts.{longest_frame, put_length, put_into};
+ghost use Rattle.ends.specs.Ways.{greatest};
 ghost use Rattle.ends.specs.Effects.{risen, Room, Numbered, release_frame, start_frame, ack_frame, sent_frame, tick_put, answer_up, fetch_put, put_telegram, put_opening};
 
 use super::end::End;
@@ -48,19 +49,11 @@ impl End {
 
     // A data frame towards the far end, sealed with the word.
     #[tactic(auto, using(crate::proofs::Laying::finds_place))]
-    fn lay_data(
-        &self,
-        word: SafetyWord,
-        sn: SequenceNumber,
-        ec: ExecutionCycle,
-        content: Content<'_>,
-        out: &mut FrameBuffer,
-    ) -> usize
-        requires { length (content_bytes (content_value content)) ≤ 1023 }
-        ensures value { result ≡ length (sealed (far self.now.role) (telegram_bytes (record { sn = sn.0; ec = ec.0; content = content_value content.entry })) word.0) }
-        ensures after { out.new ≡ overlay (sealed (far self.now.role) (telegram_bytes (record { sn = sn.0; ec = ec.0; content = content_value content.entry })) word.0) out.old }
+    fn lay_data(&self, word: SafetyWord, telegram: Telegram<'_>, out: &mut FrameBuffer) -> usize
+        requires { length (content_bytes (content_value telegram.content)) ≤ most_data }
+        ensures value { result ≡ length (sealed (far self.now.role) (telegram_bytes (telegram_value telegram.entry)) word.0) }
+        ensures after { out.new ≡ overlay (sealed (far self.now.role) (telegram_bytes (telegram_value telegram.entry)) word.0) out.old }
     {
-        let telegram = Telegram { sn, ec, content };
         seal(self.role.far(), telegram, word, out).unwrap()
     }
 }
@@ -68,21 +61,23 @@ impl End {
 impl End {
     // AM or AM+REQ, which a tick in up puts; it bears the EC that the tick has brought.
     fn lay_sent(&self, asks: bool, message: &[u8], out: &mut FrameBuffer) -> Option<usize>
-        requires { (length message.now ≤ 1023) × ((self.now.ec.0 < 4294967295) × (Numbered self.now.state)) }
+        requires { (length message.now ≤ most_data) × ((self.now.ec.0 < greatest) × (Numbered self.now.state)) }
         ensures value { result ≡ put_length (sent_frame (risen (end_value self.now)) asks message.now self.now.state) }
         ensures after { out.new ≡ put_into (sent_frame (risen (end_value self.now)) asks message.now self.now.state) out.old }
     {
         let State::Up { words, sent, .. } = self.state else {
             return None;
         };
-        let sn = SequenceNumber(sent.0 + 1);
-        let ec = ExecutionCycle(self.ec.0 + 1);
-        let content = if asks {
-            Content::AmReq(message)
-        } else {
-            Content::Am(message)
+        let telegram = Telegram {
+            sn: SequenceNumber(sent.0 + 1),
+            ec: ExecutionCycle(self.ec.0 + 1),
+            content: if asks {
+                Content::AmReq(message)
+            } else {
+                Content::Am(message)
+            },
         };
-        Some(self.lay_data(words.write, sn, ec, content, out))
+        Some(self.lay_data(words.write, telegram, out))
     }
 
     // The frame that a tick puts.
@@ -92,7 +87,7 @@ impl End {
         message: &[u8],
         out: &mut FrameBuffer,
     ) -> Option<usize>
-        requires { (length message.now ≤ 1023) × (Room (end_value self.now) way) }
+        requires { (length message.now ≤ most_data) × (Room (end_value self.now) way) }
         ensures value { result ≡ put_length (tick_put (end_value self.now) way message.now) }
         ensures after { out.new ≡ put_into (tick_put (end_value self.now) way message.now) out.old }
     {
@@ -112,18 +107,27 @@ impl End {
         ensures after { out.new ≡ overlay (start_frame (end_value self.now) word) out.old }
     {
         let v = self.params.values();
-        let content = Content::EcStart {
-            version: v.version,
-            period: v.period.0,
+        let telegram = Telegram {
+            sn: SequenceNumber(0),
+            ec: self.ec,
+            content: Content::EcStart {
+                version: v.version,
+                period: v.period.0,
+            },
         };
-        self.lay_data(word, SequenceNumber(0), self.ec, content, out)
+        self.lay_data(word, telegram, out)
     }
 
     fn lay_ack(&self, word: SafetyWord, sn: SequenceNumber, out: &mut FrameBuffer) -> usize
         ensures value { result ≡ length (ack_frame (end_value self.now) word sn.0) }
         ensures after { out.new ≡ overlay (ack_frame (end_value self.now) word sn.0) out.old }
     {
-        self.lay_data(word, sn, self.ec, Content::AmAck(&[]), out)
+        let telegram = Telegram {
+            sn,
+            ec: self.ec,
+            content: Content::AmAck(&[]),
+        };
+        self.lay_data(word, telegram, out)
     }
 
     // AM+ACK for an AM+REQ that was accepted in up, or the release where no number is left.

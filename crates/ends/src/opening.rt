@@ -127,7 +127,10 @@ fn try_open<C: Carrier, N: SessionNumbers>(
     let end = first(params, N::role(), numbers.first_state());
     let laid = lay_first(end.state, room);
     put(carrier, end.role, laid, room);
-    let answer = end.answer(None, None, laid);
+    let answer = Answer {
+        put: laid,
+        ..end.idle()
+    };
     Ok(Opened {
         end,
         token: StopToken { spent: () },

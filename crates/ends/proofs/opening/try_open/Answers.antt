@@ -1,7 +1,7 @@
-use Rattle.std.proofs.Common.{◌≡◌, length, None, sym, ap, ◌∙◌, subst, rules}
+use Rattle.std.proofs.Common.{◌≡◌, length, None, sym, ap, ◌∙◌, subst, ap₂, rules}
+use Rattle.ends.specs.declared.answer.Answer.{Answer}
 use Rattle.ends.specs.Calls.{Puts, opening_refusal, opening_put}
 use Rattle.ends.specs.Puts.{put_length, put_into}
-use Rattle.states.specs.States.{status_of}
 use Rattle.ends.specs.Steps.{PutStep, OpeningStepped}
 use Rattle.ends.proofs.Calling.{laid_in, opening_judged}
 use Rattle.ends.proofs.opening.try_open.Goals as goal
@@ -33,7 +33,7 @@ returns g c =
           end = search rules;
           carrier = subst (λ r. Puts m m' r (opening_put first)) party (subst (λ s. Puts m m' end.role s) front c.put.ensures.rules);
           output = laid.output ∙ ap (λ s. put_into (opening_put s) out) state;
-          answer = c.answer-answer.ensures ∙ ap (λ n. record { refused = None; status = status_of end.state; delivered = None; put = n }) (l.ensures.value ∙ ap (λ s. put_length (opening_put s)) state);
+          answer = ap₂ (λ (a : Answer) n. record { refused = a.refused; status = a.status; delivered = a.delivered; put = n }) c.idle.ensures (l.ensures.value ∙ ap (λ s. put_length (opening_put s)) state);
         };
       };
       exact =

@@ -3,6 +3,7 @@ use native.Mathlib.Nat.{sub-zero}
 use Rattle.terms.specs.declared.role.Role.{Role}
 use Rattle.terms.specs.Numbers.{Bytes}
 use Rattle.carrier.specs.Rules.{FetchRules, FetchSome}
+use Rattle.ends.specs.declared.answer.Answer.{Answer}
 use Rattle.ends.specs.Ends.{end_value}
 use Rattle.ends.specs.Ways.{fetch_way}
 use Rattle.ends.specs.Effects.{after_fetch, fetch_put, delivers}
@@ -53,7 +54,7 @@ returns-in_default-unwrap g c =
     let output = kept_out _ _ _ chunk in
     record {
       rules =
-          subst (λ o. Fetched o e e m m' buf buf' out (c.in-Some.room.now ++ drop longest_frame out) c.answer.result) (sym none)
+          subst (λ o. Fetched o e e m m' buf buf' out (c.in-Some.room.now ++ drop longest_frame out) c.idle.result) (sym none)
           record {
             came = None;
             between = m';
@@ -62,10 +63,10 @@ returns-in_default-unwrap g c =
             end = refl;
             carrier = refl;
             output = output;
-            answer = c.answer.ensures;
+            answer = c.idle.ensures;
           };
       exact =
-          subst (λ o. FetchStepped o g.C.Carrier.putting g.C.Carrier.fetching c.args.carrier.now c.fetch.new.self e e buf buf' out (c.in-Some.room.now ++ drop longest_frame out) c.answer.result) (sym none)
+          subst (λ o. FetchStepped o g.C.Carrier.putting g.C.Carrier.fetching c.args.carrier.now c.fetch.new.self e e buf buf' out (c.in-Some.room.now ++ drop longest_frame out) c.idle.result) (sym none)
           record {
             came = None;
             between = c.fetch.new.self;
@@ -73,7 +74,7 @@ returns-in_default-unwrap g c =
             put = refl;
             end = refl;
             output = output;
-            answer = c.answer.ensures;
+            answer = c.idle.ensures;
           };
     }
 
@@ -113,10 +114,11 @@ returns g c =
     let none : fetch_refusal e m.largest (length buf) (length out) ≡ None = fetch_judged e _ _ _ _ c.in_ok-takes_frames.ensures room chunk.enough c.in_ok-is_running.ensures in
     let laid = laid_in p _ out c.in-Some.room.now l.new.out l.result.1 chunk l.array_long value after in
     let put = λ (P : Role → Option (List ℕ) → Type 0) (h : P e'.role (front l.result.1 l.new.out)). subst (λ w. P w p) (ap (λ x. x.role) end ∙ kept.role) (subst (P e'.role) laid.front h) in
-    let answer = c.answer-2.ensures ∙ ap₂ (λ x y. record { refused = None; status = status_of e'.state; delivered = x; put = y }) place value in
+    let answering : Answer → Answer = λ a. record { refused = a.refused; status = a.status; delivered = l.result.0; put = l.result.1 } in
+    let answer = ap answering c.idle-2.ensures ∙ ap₂ (λ x y. record { refused = None; status = status_of e'.state; delivered = x; put = y }) place value in
     record {
       rules =
-          subst (λ o. Fetched o e e' m m' buf buf' out (l.new.out ++ drop longest_frame out) c.answer-2.result) (sym none)
+          subst (λ o. Fetched o e e' m m' buf buf' out (l.new.out ++ drop longest_frame out) (answering c.idle-2.result)) (sym none)
           record {
             came = Some n;
             between = between;
@@ -128,7 +130,7 @@ returns g c =
             answer = answer;
           };
       exact =
-          subst (λ o. FetchStepped o g.C.Carrier.putting g.C.Carrier.fetching c.args.carrier.now c.put.new.carrier e e' buf buf' out (l.new.out ++ drop longest_frame out) c.answer-2.result) (sym none)
+          subst (λ o. FetchStepped o g.C.Carrier.putting g.C.Carrier.fetching c.args.carrier.now c.put.new.carrier e e' buf buf' out (l.new.out ++ drop longest_frame out) (answering c.idle-2.result)) (sym none)
           record {
             came = Some n;
             between = c.fetch.new.self;

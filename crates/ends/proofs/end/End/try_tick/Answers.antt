@@ -1,5 +1,6 @@
 use Rattle.std.proofs.Common.{◌≡◌, List, ◌++◌, length, drop, Some, None, Err, Option, refl, sym, ap, ◌∙◌, subst, ap₂}
 use Rattle.terms.specs.declared.role.Role.{Role}
+use Rattle.ends.specs.declared.answer.Answer.{Answer}
 use Rattle.ends.specs.Ends.{end_value}
 use Rattle.ends.specs.Ways.{tick_way}
 use Rattle.ends.specs.Effects.{tick_put}
@@ -48,16 +49,17 @@ returns g c =
     let kept = kept_tick e (tick_way e) in
     let none : tick_refusal e m.largest (length out) ≡ None = tick_judged e _ _ _ c.in_ok-takes_frames.ensures chunk.enough c.in_ok-is_running.ensures in
     let laid = laid_in p _ out c.in-Some.room.now l.new.out l.result chunk l.array_long l.ensures.value l.ensures.after in
+    let answer : Answer → Answer = λ a. record { refused = c.message_refusal.result; status = a.status; delivered = a.delivered; put = l.result } in
     let put = λ (P : Role → Option (List _) → Type 0) (h : P e'.role (front l.result l.new.out)). subst (λ w. P w p) (ap (λ x. x.role) l.ensures.end ∙ kept.role) (subst (P e'.role) laid.front h) in
     record {
       rules =
-          subst (λ o. Ticked o e e' m m' message out (l.new.out ++ drop longest_frame out) c.answer.result) (sym none)
+          subst (λ o. Ticked o e e' m m' message out (l.new.out ++ drop longest_frame out) (answer c.idle.result)) (sym none)
           record {
             end = l.ensures.end;
             carrier = put (λ w x. Puts m m' w x) c.put.ensures.rules;
             output = laid.output;
             answer =
-                c.answer.ensures
+                ap answer c.idle.ensures
                 ∙ ap₂ (λ x n. record { refused = x; status = status_of e'.state; delivered = None; put = n })
                 (c.message_refusal.ensures ∙ ap (λ v. message_refusal v (length message) e'.state) (ap (λ x. x.values) l.ensures.end ∙ kept.values)) l.ensures.value;
           };
