@@ -11,7 +11,7 @@ use Rattle.terms.specs.Buffers.{overlay}
 use Rattle.terms.proofs.Laid.{laid_front}
 use Rattle.carrier.specs.Rules.{Meaning, FetchRules}
 use Rattle.ends.specs.declared.answer.Answer.{Answer}
-use Rattle.ends.specs.Puts.{longest_frame, put_length, put_into, front, Fits}
+use Rattle.ends.specs.Puts.{longest_frame, put_length, put_into, Lays, front, Fits}
 use Rattle.ends.specs.Calls.{call_refusal, out_refusal, opening_refusal, tick_refusal, fetch_refusal}
 use Rattle.states.specs.States.{EndValue}
 
@@ -39,9 +39,10 @@ laid_start (Some s) k out ws h l =
           ∙ ap (λ t. s ++ t) (sym (drop-append-le (length s) ws (drop k out) within) ∙ ap (λ t. drop (length s) t) (kept_out k out ws h));
     }
 
-pub laid_in : (p : Option (List ℕ)) (k : ℕ) (out ws ws' : List ℕ) (n : Option ℕ) → IsFirstChunk out ws k → length ws' ≡ k → n ≡ put_length p → ws' ≡ put_into p ws → Laid p k out n ws'
-laid_in p k out ws ws' n h l en ew =
-    subst (λ m. Laid p k out m ws') (sym en) (subst (λ w. Laid p k out (put_length p) w) (sym ew) (laid_start p k out ws h (ap length (sym ew) ∙ l)))
+pub laid_in : (p : Option (List ℕ)) (k : ℕ) (out ws ws' : List ℕ) (n : Option ℕ) → IsFirstChunk out ws k → length ws' ≡ k → Lays p ws ws' n → Laid p k out n ws'
+laid_in p k out ws ws' n h l lays =
+    subst (λ m. Laid p k out m ws') (sym lays.value)
+    (subst (λ w. Laid p k out (put_length p) w) (sym lays.after) (laid_start p k out ws h (ap length (sym lays.after) ∙ l)))
 
 passed : (b : Bool) (x : Refusal) (rest r : Option Refusal) → None ≡ cond b (Some x) None → r ≡ rest → cond b (Some x) rest ≡ r
 passed true x rest r h e = let clash : ◌≡◌ {A = Option Refusal} None (Some x) = h in cc

@@ -8,7 +8,7 @@ ghost use Rattle.ends.specs.Ends.{end_value};
 ghost use Rattle.ends.specs.Steps.{PutStep, TickStep, FetchStep, StopStep};
 ghost use Rattle.ends.specs.Ways.{tick_way, fetch_way};
 ghost use Rattle.ends.specs.Effects.{after_tick, after_fetch, tick_put, fetch_put, delivers};
-ghost use Rattle.ends.specs.Puts.{longest_frame, front, put_length, put_into, Fits};
+ghost use Rattle.ends.specs.Puts.{longest_frame, front, Lays, Fits};
 
 use super::answer::{Answer, Place};
 use super::end::End;
@@ -123,8 +123,7 @@ impl End {
     // A tick that is not refused: the frame it puts is laid at the start of `out`.
     fn go_on(&mut self, message: &[u8], out: &mut FrameBuffer) -> Option<usize>
         ensures end { end_value self.new ≡ after_tick (end_value self.old) (tick_way (end_value self.old)) }
-        ensures value { result ≡ put_length (tick_put (end_value self.old) (tick_way (end_value self.old)) (said (end_value self.old).values message.now)) }
-        ensures after { out.new ≡ put_into (tick_put (end_value self.old) (tick_way (end_value self.old)) (said (end_value self.old).values message.now)) out.old }
+        ensures laid { Lays (tick_put (end_value self.old) (tick_way (end_value self.old)) (said (end_value self.old).values message.now)) out.old out.new result }
     {
         let way = self.tick_way();
         let laid = self.lay_tick(way, self.said(message), out);
@@ -170,8 +169,7 @@ impl End {
     fn take(&mut self, s: &[u8], out: &mut FrameBuffer) -> (Option<Place>, Option<usize>)
         ensures end { end_value self.new ≡ after_fetch (end_value self.old) (fetch_way (end_value self.old) s.now) }
         ensures place { result.0 ≡ delivers (fetch_way (end_value self.old) s.now) (length s.now) }
-        ensures value { result.1 ≡ put_length (fetch_put (end_value self.old) (fetch_way (end_value self.old) s.now)) }
-        ensures after { out.new ≡ put_into (fetch_put (end_value self.old) (fetch_way (end_value self.old) s.now)) out.old }
+        ensures laid { Lays (fetch_put (end_value self.old) (fetch_way (end_value self.old) s.now)) out.old out.new result.1 }
         ensures octets { Bytes s.now }
     {
         let way = self.fetch_way(s);

@@ -1,12 +1,11 @@
 // The frames that an end puts, laid into its output buffer.
-ghost use Rattle.std.specs.Prelude.{◌≡◌, ◌<◌, ◌≤◌, true, length};
-ghost use Rattle.terms.specs.Buffers.{overlay};
+ghost use Rattle.std.specs.Prelude.{◌≡◌, ◌<◌, ◌≤◌, true, length, Some};
 ghost use Rattle.codec.specs.Frames.{frame_value, bytes_of, sized, most_data};
 ghost use Rattle.terms.specs.Roles.{far};
 ghost use Rattle.codec.specs.Sealing.{sealed};
 ghost use Rattle.codec.specs.Telegrams.{telegram_bytes, telegram_value, content_bytes, content_value};
 ghost use Rattle.ends.specs.Ends.{end_value};
-ghost use Rattle.ends.specs.Puts.{longest_frame, put_length, put_into};
+ghost use Rattle.ends.specs.Puts.{longest_frame, Lays};
 ghost use Rattle.ends.specs.Ways.{greatest};
 ghost use Rattle.ends.specs.Effects.{risen, Room, Numbered, release_frame, start_frame, ack_frame, sent_frame, tick_put, answer_up, fetch_put, put_telegram, put_opening};
 
@@ -29,16 +28,14 @@ pub(crate) type FrameBuffer = [u8; LONGEST_FRAME];
 // Lays a frame of the opening, or a release, at the start of `out`.
 pub(crate) fn lay_frame(frame: Frame<'_>, out: &mut FrameBuffer) -> usize
     requires { (length (bytes_of (frame_value frame)) ≤ longest_frame) × (sized (frame_value frame) ≡ true) }
-    ensures value { result ≡ length (bytes_of (frame_value frame.entry)) }
-    ensures after { out.new ≡ overlay (bytes_of (frame_value frame.entry)) out.old }
+    ensures { Lays (Some (bytes_of (frame_value frame.entry))) out.old out.new (Some result) }
 {
     frame.write(out).unwrap()
 }
 
 impl End {
     pub(crate) fn lay_release(&self, reason: Reason, out: &mut FrameBuffer) -> usize
-        ensures value { result ≡ length (release_frame (end_value self.now) reason) }
-        ensures after { out.new ≡ overlay (release_frame (end_value self.now) reason) out.old }
+        ensures { Lays (Some (release_frame (end_value self.now) reason)) out.old out.new (Some result) }
     {
         let release = Frame::Di {
             towards: self.role.far(),
@@ -51,8 +48,7 @@ impl End {
     #[tactic(auto, using(crate::proofs::Laying::finds_place))]
     fn lay_data(&self, word: SafetyWord, telegram: Telegram<'_>, out: &mut FrameBuffer) -> usize
         requires { length (content_bytes (content_value telegram.content)) ≤ most_data }
-        ensures value { result ≡ length (sealed (far self.now.role) (telegram_bytes (telegram_value telegram.entry)) word.0) }
-        ensures after { out.new ≡ overlay (sealed (far self.now.role) (telegram_bytes (telegram_value telegram.entry)) word.0) out.old }
+        ensures { Lays (Some (sealed (far self.now.role) (telegram_bytes (telegram_value telegram.entry)) word.0)) out.old out.new (Some result) }
     {
         seal(self.role.far(), telegram, word, out).unwrap()
     }
@@ -62,8 +58,7 @@ impl End {
     // AM or AM+REQ, which a tick in up puts; it bears the EC that the tick has brought.
     fn lay_sent(&self, asks: bool, message: &[u8], out: &mut FrameBuffer) -> Option<usize>
         requires { (length message.now ≤ most_data) × ((self.now.ec.0 < greatest) × (Numbered self.now.state)) }
-        ensures value { result ≡ put_length (sent_frame (risen (end_value self.now)) asks message.now self.now.state) }
-        ensures after { out.new ≡ put_into (sent_frame (risen (end_value self.now)) asks message.now self.now.state) out.old }
+        ensures { Lays (sent_frame (risen (end_value self.now)) asks message.now self.now.state) out.old out.new result }
     {
         let State::Up { words, sent, .. } = self.state else {
             return None;
@@ -88,8 +83,7 @@ impl End {
         out: &mut FrameBuffer,
     ) -> Option<usize>
         requires { (length message.now ≤ most_data) × (Room (end_value self.now) way) }
-        ensures value { result ≡ put_length (tick_put (end_value self.now) way message.now) }
-        ensures after { out.new ≡ put_into (tick_put (end_value self.now) way message.now) out.old }
+        ensures { Lays (tick_put (end_value self.now) way message.now) out.old out.new result }
     {
         match way {
             TickWay::UsedUp => Some(self.lay_release(Reason::CounterUsedUp, out)),
@@ -103,8 +97,7 @@ impl End {
 
 impl End {
     fn lay_start(&self, word: SafetyWord, out: &mut FrameBuffer) -> usize
-        ensures value { result ≡ length (start_frame (end_value self.now) word) }
-        ensures after { out.new ≡ overlay (start_frame (end_value self.now) word) out.old }
+        ensures { Lays (Some (start_frame (end_value self.now) word)) out.old out.new (Some result) }
     {
         let v = self.params.values();
         let telegram = Telegram {
@@ -119,8 +112,7 @@ impl End {
     }
 
     fn lay_ack(&self, word: SafetyWord, sn: SequenceNumber, out: &mut FrameBuffer) -> usize
-        ensures value { result ≡ length (ack_frame (end_value self.now) word sn.0) }
-        ensures after { out.new ≡ overlay (ack_frame (end_value self.now) word sn.0) out.old }
+        ensures { Lays (Some (ack_frame (end_value self.now) word sn.0)) out.old out.new (Some result) }
     {
         let telegram = Telegram {
             sn,
@@ -138,8 +130,7 @@ impl End {
         kind: Exchange,
         out: &mut FrameBuffer,
     ) -> Option<usize>
-        ensures value { result ≡ put_length (answer_up (end_value self.now) word sent kind) }
-        ensures after { out.new ≡ put_into (answer_up (end_value self.now) word sent kind) out.old }
+        ensures { Lays (answer_up (end_value self.now) word sent kind) out.old out.new result }
     {
         match kind {
             Exchange::Req if sent.0 == u32::MAX => Some(self.lay_release(
@@ -152,8 +143,7 @@ impl End {
     }
 
     fn lay_telegram(&self, kind: Exchange, out: &mut FrameBuffer) -> Option<usize>
-        ensures value { result ≡ put_length (put_telegram (end_value self.now) kind self.now.state) }
-        ensures after { out.new ≡ put_into (put_telegram (end_value self.now) kind self.now.state) out.old }
+        ensures { Lays (put_telegram (end_value self.now) kind self.now.state) out.old out.new result }
     {
         match (self.state, kind) {
             (State::WaitFirst { words, .. }, Exchange::Req) => Some(self.lay_ack(
@@ -168,8 +158,7 @@ impl End {
 
     // The frame of the opening that a fetch puts.
     fn lay_opening(&self, way: FetchWay, out: &mut FrameBuffer) -> Option<usize>
-        ensures value { result ≡ put_length (put_opening (end_value self.now) way) }
-        ensures after { out.new ≡ put_into (put_opening (end_value self.now) way) out.old }
+        ensures { Lays (put_opening (end_value self.now) way) out.old out.new result }
     {
         match (way, self.state) {
             (FetchWay::AnswersAu1 { rb }, State::Listen { ra }) => Some(lay_frame(
@@ -190,8 +179,7 @@ impl End {
 
     // The frame that a fetch puts.
     pub(crate) fn lay_fetch(&self, way: FetchWay, out: &mut FrameBuffer) -> Option<usize>
-        ensures value { result ≡ put_length (fetch_put (end_value self.now) way) }
-        ensures after { out.new ≡ put_into (fetch_put (end_value self.now) way) out.old }
+        ensures { Lays (fetch_put (end_value self.now) way) out.old out.new result }
     {
         match (way, self.state, self.role) {
             (FetchWay::Releases(reason), _, _) => Some(self.lay_release(reason, out)),

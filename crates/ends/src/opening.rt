@@ -3,7 +3,7 @@ ghost use Rattle.std.specs.Prelude.{◌≡◌};
 ghost use Rattle.terms.specs.declared.role.Role.TheVariants.{Initiator, Responder};
 ghost use Rattle.states.specs.declared.state.State.TheVariants.{WaitAu2, Listen};
 ghost use Rattle.ends.specs.Calls.{opened, opening_put};
-ghost use Rattle.ends.specs.Puts.{put_length, put_into};
+ghost use Rattle.ends.specs.Puts.{Lays};
 ghost use Rattle.ends.specs.Openings.{handed_back, OpensAs};
 ghost use Rattle.ends.specs.Ends.{end_value};
 ghost use Rattle.ends.specs.Steps.{OpeningStep};
@@ -101,8 +101,7 @@ fn first(params: Params, role: Role, state: State) -> End
 
 // Lays the frame of an end's first state, if that has one.
 fn lay_first(state: State, out: &mut FrameBuffer) -> Option<usize>
-    ensures value { result ≡ put_length (opening_put state) }
-    ensures after { out.new ≡ put_into (opening_put state) out.old }
+    ensures { Lays (opening_put state) out.old out.new result }
 {
     match state {
         State::WaitAu2 { rb, .. } => Some(lay_frame(Frame::Au1 { rb }, out)),

@@ -9,7 +9,7 @@ use Rattle.ends.proofs.opening.try_open.Goals as goal
 pub put-requires : goal.put-requires
 put-requires g c =
     let l = c.lay_first-laid in
-    (laid_in (opening_put c.first-end.result.state) _ c.args.out.now c.in-Some.room.now l.new.out l.result c.in-Some.ensures.cases l.array_long l.ensures.value l.ensures.after).fits
+    (laid_in (opening_put c.first-end.result.state) _ c.args.out.now c.in-Some.room.now l.new.out l.result c.in-Some.ensures.cases l.array_long l.ensures).fits
 
 pub returns : goal.returns
 returns g c =
@@ -24,7 +24,7 @@ returns g c =
     let none : opening_refusal m.largest (length out) ≡ None = opening_judged _ _ c.in_ok-takes_frames.ensures chunk.enough in
     let state : end.state ≡ first = search rules in
     let party : end.role ≡ role = search rules in
-    let laid = laid_in (opening_put end.state) _ out c.in-Some.room.now l.new.out l.result chunk l.array_long l.ensures.value l.ensures.after in
+    let laid = laid_in (opening_put end.state) _ out c.in-Some.room.now l.new.out l.result chunk l.array_long l.ensures in
     let front = laid.front ∙ ap opening_put state in
     record {
       rules = record {

@@ -7,7 +7,7 @@ use Rattle.ends.specs.declared.answer.Answer.{Answer}
 use Rattle.ends.specs.Ends.{end_value}
 use Rattle.ends.specs.Ways.{fetch_way}
 use Rattle.ends.specs.Effects.{after_fetch, fetch_put, delivers}
-use Rattle.ends.specs.Puts.{longest_frame, put_length, put_into, front}
+use Rattle.ends.specs.Puts.{longest_frame, Lays, front}
 use Rattle.ends.specs.Calls.{Puts, Fetched, answer_of, fetch_refusal}
 use Rattle.states.specs.States.{status_of}
 use Rattle.ends.specs.Steps.{PutStep, FetchStepped}
@@ -82,7 +82,7 @@ pub put-requires : goal.put-requires
 put-requires g c =
     let e = end_value c.args.self.now in
     let l = c.take-delivered in
-    (laid_in (fetch_put e (fetch_way e (take (c.in-Some-unwrap.n - 0) c.fetch.new.buf))) _ c.args.out.now c.in-Some.room.now l.new.out l.result.1 c.in-Some.ensures.cases l.array_long l.ensures.value l.ensures.after).fits
+    (laid_in (fetch_put e (fetch_way e (take (c.in-Some-unwrap.n - 0) c.fetch.new.buf))) _ c.args.out.now c.in-Some.room.now l.new.out l.result.1 c.in-Some.ensures.cases l.array_long l.ensures.laid).fits
 
 pub returns : goal.returns
 returns g c =
@@ -106,16 +106,15 @@ returns g c =
     let within = rules'.within in
     let long : length s ≡ n = simp length-take (omega arith) in
     let end = l.ensures.end ∙ ap (λ x. after_fetch e (fetch_way e x)) is in
-    let value = l.ensures.value ∙ ap (λ x. put_length (fetch_put e (fetch_way e x))) is in
-    let after = l.ensures.after ∙ ap (λ x. put_into (fetch_put e (fetch_way e x)) c.in-Some.room.now) is in
+    let lays = subst (λ x. Lays (fetch_put e (fetch_way e x)) c.in-Some.room.now l.new.out l.result.1) is l.ensures.laid in
     let place = l.ensures.place ∙ ap₂ (λ x k. delivers (fetch_way e x) k) is (ap length is ∙ long) in
     let kept = kept_fetch e way in
     let room : m.largest ≤ length buf = omega arith in
     let none : fetch_refusal e m.largest (length buf) (length out) ≡ None = fetch_judged e _ _ _ _ c.in_ok-takes_frames.ensures room chunk.enough c.in_ok-is_running.ensures in
-    let laid = laid_in p _ out c.in-Some.room.now l.new.out l.result.1 chunk l.array_long value after in
+    let laid = laid_in p _ out c.in-Some.room.now l.new.out l.result.1 chunk l.array_long lays in
     let put = λ (P : Role → Option (List ℕ) → Type 0) (h : P e'.role (front l.result.1 l.new.out)). subst (λ w. P w p) (ap (λ x. x.role) end ∙ kept.role) (subst (P e'.role) laid.front h) in
     let answering : Answer → Answer = λ a. record { refused = a.refused; status = a.status; delivered = l.result.0; put = l.result.1 } in
-    let answer = ap answering c.idle-2.ensures ∙ ap₂ (λ x y. record { refused = None; status = status_of e'.state; delivered = x; put = y }) place value in
+    let answer = ap answering c.idle-2.ensures ∙ ap₂ (λ x y. record { refused = None; status = status_of e'.state; delivered = x; put = y }) place lays.value in
     record {
       rules =
           subst (λ o. Fetched o e e' m m' buf buf' out (l.new.out ++ drop longest_frame out) (answering c.idle-2.result)) (sym none)

@@ -33,7 +33,7 @@ pub put-requires : goal.put-requires
 put-requires g c =
     let e = end_value c.args.self.now in
     let l = c.go_on-laid in
-    (laid_in (tick_put e (tick_way e) (said e.values c.args.message.now)) _ c.args.out.now c.in-Some.room.now l.new.out l.result c.in-Some.ensures.cases l.array_long l.ensures.value l.ensures.after).fits
+    (laid_in (tick_put e (tick_way e) (said e.values c.args.message.now)) _ c.args.out.now c.in-Some.room.now l.new.out l.result c.in-Some.ensures.cases l.array_long l.ensures.laid).fits
 
 pub returns : goal.returns
 returns g c =
@@ -48,7 +48,7 @@ returns g c =
     let p = tick_put e (tick_way e) (said e.values message) in
     let kept = kept_tick e (tick_way e) in
     let none : tick_refusal e m.largest (length out) ≡ None = tick_judged e _ _ _ c.in_ok-takes_frames.ensures chunk.enough c.in_ok-is_running.ensures in
-    let laid = laid_in p _ out c.in-Some.room.now l.new.out l.result chunk l.array_long l.ensures.value l.ensures.after in
+    let laid = laid_in p _ out c.in-Some.room.now l.new.out l.result chunk l.array_long l.ensures.laid in
     let answer : Answer → Answer = λ a. record { refused = c.message_refusal.result; status = a.status; delivered = a.delivered; put = l.result } in
     let put = λ (P : Role → Option (List _) → Type 0) (h : P e'.role (front l.result l.new.out)). subst (λ w. P w p) (ap (λ x. x.role) l.ensures.end ∙ kept.role) (subst (P e'.role) laid.front h) in
     record {
@@ -61,7 +61,7 @@ returns g c =
             answer =
                 ap answer c.idle.ensures
                 ∙ ap₂ (λ x n. record { refused = x; status = status_of e'.state; delivered = None; put = n })
-                (c.message_refusal.ensures ∙ ap (λ v. message_refusal v (length message) e'.state) (ap (λ x. x.values) l.ensures.end ∙ kept.values)) l.ensures.value;
+                (c.message_refusal.ensures ∙ ap (λ v. message_refusal v (length message) e'.state) (ap (λ x. x.values) l.ensures.end ∙ kept.values)) l.ensures.laid.value;
           };
       exact =
           subst (λ o. TickStepped o g.C.Carrier.putting c.args.carrier.now c.put.new.carrier e message) (sym none)
