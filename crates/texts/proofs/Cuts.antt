@@ -1,10 +1,9 @@
 -- Laws of cutting a text, as the library's calls find the places.
-use Rattle.std.proofs.Common.{◌≡◌, ℕ, zero, suc, ◌+◌, ◌-◌, ◌≤◌, Bool, true, false, not, ◌||◌, cond, eqb, List, [], ◌∷◌, length, get_or, take, drop, Some, None, Option, sym, refl, ap, ◌∙◌, zero-add, arith}
-use Rattle.std.proofs.lemmas.List.{drop_all, take_all, take_rest}
+use Rattle.std.proofs.Common.{◌≡◌, ℕ, zero, suc, ◌+◌, ◌-◌, Bool, true, false, not, cond, eqb, nat_lt, List, [], ◌∷◌, length, get_or, take, drop, Some, None, Option, refl, ap, ◌∙◌, zero-add, arith}
+use Rattle.std.proofs.lemmas.List.{take_rest}
 use Rattle.std.proofs.lemmas.List.Recursion.{is_count_by}
-use Rattle.std.proofs.lemmas.Bool.{ne_eqb}
 use Rattle.std.proofs.lemmas.Bool.Decides.{nat_tests}
-use Rattle.std.specs.List.{position_or_len, position, count_by, list_any, slice_get, slice_split, onto_first}
+use Rattle.std.specs.List.{position_or_len, position, count_by, slice_get, slice_split, onto_first}
 use Rattle.std.specs.Option.{option_map, unwrap_or}
 use denote.Ref.{Bor}
 use Rattle.texts.specs.Pieces.{before, after, count_of, value_at}
@@ -32,9 +31,6 @@ module _ (c : ℕ) where
   found : (s : List ℕ) (i : ℕ) → position (λ b. eqb b c) s ≡ Some i → i ≡ length (before c s)
   found s i e = let p = place_is s in grind (arith, nat_tests)
 
-  missed : (s : List ℕ) → position (λ b. eqb b c) s ≡ None → length s ≤ length (before c s)
-  missed s e = let p = place_is s in grind (arith, nat_tests)
-
   -- what stands before the first c and behind it, as the code cuts it
   pub front_there : (s : List ℕ) (i : ℕ) → position (λ b. eqb b c) s ≡ Some i → take i s ≡ before c s
   front_there s i e = ap (λ n. take n s) (found s i e) ∙ before_take s
@@ -44,17 +40,18 @@ module _ (c : ℕ) where
       let j : i + 1 ≡ suc (length (before c s)) = omega (arith, found s i e) in
       take_rest s (i + 1) ∙ ap (λ n. drop n s) j ∙ after_drop s
 
-  pub front_whole : (s : List ℕ) → position (λ b. eqb b c) s ≡ None → s ≡ before c s
-  front_whole s e = sym (take_all (length (before c s)) s (missed s e)) ∙ before_take s
+  -- a c stands there where one is counted
+  there : (s : List ℕ) → nat_lt (position_or_len (λ b. eqb b c) s) (length s) ≡ not (eqb (count_of c s) 0)
+  there [] = refl
+  there (b ∷ s) =
+      elim (eqb b c) as (λ t. nat_lt (cond (not t) (1 + position_or_len (λ x. eqb x c) s) 0) (length (b ∷ s)) ≡ not (eqb (cond t 1 0 + count_of c s) 0))
+      [ true ↦ grind (arith, nat_tests) | false ↦ (let h = there s in grind (arith, nat_tests)) ]
 
-  pub back_none : (s : List ℕ) → position (λ b. eqb b c) s ≡ None → [] ≡ after c s
-  back_none s e = sym (drop_all (suc (length (before c s))) s (omega (arith, missed s e))) ∙ after_drop s
+  pub mark_there : (s : List ℕ) (i : ℕ) → position (λ b. eqb b c) s ≡ Some i → false ≡ eqb (count_of c s) 0
+  mark_there s i e = let h = there s in grind (arith, nat_tests)
 
-  pub lacks_law : (s : List ℕ) → not (list_any (λ b. eqb b c) s) ≡ eqb (count_of c s) 0
-  lacks_law [] = refl
-  lacks_law (b ∷ s) =
-      elim (eqb b c) as (λ t. not (t || list_any (λ x. eqb x c) s) ≡ eqb (cond t 1 0 + count_of c s) 0)
-      [ true ↦ sym (ne_eqb _ _ (λ e. omega arith)) | false ↦ lacks_law s ∙ ap (λ n. eqb n 0) (sym (zero-add _)) ]
+  pub mark_missing : (s : List ℕ) → position (λ b. eqb b c) s ≡ None → true ≡ eqb (count_of c s) 0
+  mark_missing s e = let h = there s in grind (arith, nat_tests)
 
   counted : (t : Bool) (n : ℕ) → cond t 1 0 + n ≡ cond t (1 + n) n
   counted true n = refl

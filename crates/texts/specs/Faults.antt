@@ -23,6 +23,11 @@ fault_at column e = record { fault = e; column = column }
 abbrev pub whole_line : Fault → LineFault
 whole_line e = fault_at 0 e
 
+-- that an answer is there, whatever it gives, or why it is not
+abbrev pub verdict : {T E : Type 0} → Result T E → Result (Unit {0}) E
+verdict (Ok x) = Ok tt
+verdict (Err e) = Err e
+
 -- a value's answer as its line's
 abbrev pub at_column : {T : Type 0} → Result T Fault → ℕ → Result T LineFault
 at_column (Ok x) column = Ok x

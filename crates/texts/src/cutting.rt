@@ -1,5 +1,5 @@
 // Where a text is cut: at a byte, into what stands before it and what behind it.
-ghost use Rattle.std.specs.Prelude.{◌≡◌, ◌==◌, position};
+ghost use Rattle.std.specs.Prelude.{◌≡◌, ◌==◌, IfSome, is_none, position};
 ghost use Rattle.texts.specs.Pieces.{before, after, count_of, value_at};
 
 // Where the first `c` stands.
@@ -9,23 +9,14 @@ fn find(s: &[u8], c: u8) -> Option<usize>
     s.iter().position(|b| *b == c)
 }
 
-// What stands before the first `c`, and what behind it.
-#[tactic(auto, using(crate::proofs::Cuts::front_there, crate::proofs::Cuts::back_there, crate::proofs::Cuts::front_whole, crate::proofs::Cuts::back_none))]
-pub fn cut(s: &[u8], c: u8) -> (&[u8], &[u8])
-    ensures front { result.0.now ≡ before c s.now }
-    ensures back { result.1.now ≡ after c s.now }
+// What stands before the first `c`, and what behind it; none where no `c` stands.
+#[tactic(auto, using(crate::proofs::Cuts::front_there, crate::proofs::Cuts::back_there, crate::proofs::Cuts::mark_there, crate::proofs::Cuts::mark_missing))]
+pub fn cut(s: &[u8], c: u8) -> Option<(&[u8], &[u8])>
+    ensures parts { IfSome result (λ p. (p.0.now ≡ before c s.now) × (p.1.now ≡ after c s.now)) }
+    ensures missing { is_none result ≡ (count_of c s.now == 0) }
 {
-    match find(s, c) {
-        Some(i) => (&s[..i], &s[i + 1..]),
-        None => (s, &[]),
-    }
-}
-
-// Whether no `c` stands in `s`. It looks no further than the first, so that a file is read in one pass.
-pub(crate) fn lacks(s: &[u8], c: u8) -> bool
-    ensures { result ≡ (count_of c s.now == 0) }
-{
-    !s.contains(&c)
+    let i = find(s, c)?;
+    Some((&s[..i], &s[i + 1..]))
 }
 
 // How often `c` stands in `s`.

@@ -1,28 +1,28 @@
-// The line of names that a file begins with, and that a line has its end.
-ghost use Rattle.std.specs.Prelude.{◌≡◌};
+// The line of names that a file begins with, and a line with its end.
+ghost use Rattle.std.specs.Prelude.{◌≡◌, IfOk};
+ghost use Rattle.texts.specs.Faults.{verdict};
 ghost use Rattle.texts.specs.Headings.{read_names, read_end};
+ghost use Rattle.texts.specs.Pieces.{before, after};
 
-use super::cutting::{cut, lacks};
+use super::cutting::cut;
 use super::fault::{Fault, LineFault};
 use super::words::is;
 
-// That the text begins with a line of just these names.
-pub fn names(text: &[u8], wanted: &str) -> Result<(), LineFault>
-    ensures { result ≡ read_names wanted.now text.now }
+// What stands behind the line of names that the text begins with: a line of just these names.
+pub fn names<'a>(text: &'a [u8], wanted: &str) -> Result<&'a [u8], LineFault>
+    ensures value { verdict result ≡ read_names wanted.now text.now }
+    ensures behind { IfOk result (λ rest. rest.now ≡ after 10 text.now) }
 {
-    let (line, _) = cut(text, b'\n');
-    if lacks(text, b'\n') || !is(line, wanted) {
-        return Err(Fault::NamesDiffer.whole_line());
+    match cut(text, b'\n') {
+        Some((line, rest)) if is(line, wanted) => Ok(rest),
+        _ => Err(Fault::NamesDiffer.whole_line()),
     }
-    Ok(())
 }
 
-// That a line is there, with its end.
-pub fn ended(text: &[u8]) -> Result<(), LineFault>
-    ensures { result ≡ read_end text.now }
+// The line that the text begins with, which has its end, and what stands behind it.
+pub fn ended(text: &[u8]) -> Result<(&[u8], &[u8]), LineFault>
+    ensures value { verdict result ≡ read_end text.now }
+    ensures parts { IfOk result (λ p. (p.0.now ≡ before 10 text.now) × (p.1.now ≡ after 10 text.now)) }
 {
-    if lacks(text, b'\n') {
-        return Err(Fault::WrongCount.whole_line());
-    }
-    Ok(())
+    cut(text, b'\n').ok_or(Fault::WrongCount.whole_line())
 }
