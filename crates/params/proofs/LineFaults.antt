@@ -8,10 +8,10 @@ use Rattle.terms.specs.declared.role.Role.TheVariants.{Initiator, Responder}
 use Rattle.texts.specs.declared.fault.Fault.{Fault}
 use Rattle.texts.specs.declared.fault.LineFault.{LineFault}
 use Rattle.texts.specs.Columns.{text_in, number_in}
-use Rattle.texts.specs.Faults.{at_column}
+use Rattle.texts.specs.Faults.{at_column, verdict}
 use Rattle.texts.specs.Numbers.{read_number, read_below, read_hex}
 use Rattle.params.specs.Columns.{versions, periods, windows, mmins, mmaxs, asks, waits, setups, datas, ecs}
-use Rattle.params.specs.FirstFault.{verdict, judged, GoodBefore, FirstInLine}
+use Rattle.params.specs.FirstFault.{judged, GoodBefore, FirstInLine}
 use Rattle.params.specs.Lines.{role_column, read_values}
 
 module _ (role : Role) (line : List ℕ) where

@@ -10,13 +10,13 @@ use Rattle.texts.specs.declared.fault.File.TheVariants.{Script}
 use Rattle.texts.specs.declared.fault.LineFault.{LineFault}
 use Rattle.texts.specs.declared.fault.FileFault.{FileFault}
 use Rattle.texts.specs.Columns.{text_in}
-use Rattle.texts.specs.Faults.{at_column, on_line, whole_line}
+use Rattle.texts.specs.Faults.{at_column, on_line, verdict, whole_line}
 use Rattle.texts.specs.Headings.{read_names}
 use Rattle.texts.specs.Pieces.{before, after, count_of}
 use Rattle.terms.specs.declared.failure.Failure.TheVariants.{Cause, NoMemory}
 use Rattle.params.specs.declared.call.Action.{Action}
 use Rattle.params.specs.Calls.{Said, Answers, ScriptError}
-use Rattle.params.specs.FirstFault.{by_fault_first, verdict, call_columns, past_lines, FirstInScript}
+use Rattle.params.specs.FirstFault.{by_fault_first, call_columns, past_lines, FirstInScript}
 use Rattle.params.specs.Scripts.{read_role, read_deed, read_text, read_values, read_call, read_calls, ahead, script_names, read_script}
 use Rattle.params.proofs.Outcomes.{ended_by, named_by}
 

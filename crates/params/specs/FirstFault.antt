@@ -9,6 +9,7 @@ use Rattle.texts.specs.declared.fault.File.TheVariants.{Sheet, Script}
 use Rattle.texts.specs.declared.fault.LineFault.{LineFault}
 use Rattle.texts.specs.declared.fault.FileFault.{FileFault}
 use Rattle.texts.specs.Columns.{text_in}
+use Rattle.texts.specs.Faults.{verdict}
 use Rattle.texts.specs.Headings.{read_names}
 use Rattle.texts.specs.Numbers.{read_number, read_below, read_hex}
 use Rattle.texts.specs.Pieces.{before, after, count_of}
@@ -20,10 +21,6 @@ use Rattle.params.specs.Scripts.{read_role, read_deed, read_call, script_names}
 use Rattle.params.specs.Sheets.{read_row}
 
 -- what a column says to a text: it is good, or at fault
-abbrev pub verdict : {T : Type 0} → Result T Fault → Result (Unit {0}) Fault
-verdict (Ok x) = Ok tt
-verdict (Err e) = Err e
-
 abbrev pub on_number : Column → List ℕ → Result (Unit {0}) Fault
 on_number c s = verdict (read_number c.range s)
 

@@ -1,4 +1,5 @@
 // The columns of a sheet: the names line, and the place and the range of each column, named once.
+use terms::lengths::LONGEST_MESSAGE;
 use terms::sides::Sides;
 use texts::columns::Column;
 use texts::numbers::Range;
@@ -96,7 +97,7 @@ pub const DATA: Column = Column {
     place: 14,
     range: Range {
         low: 3,
-        high: 1_023,
+        high: LONGEST_MESSAGE as u32,
     },
 };
 

@@ -1,5 +1,6 @@
 // A script: the line of names, then a line for each call.
 ghost use Rattle.std.specs.Prelude.{◌≡◌, true, is_ok, IfOk, IfErr};
+ghost use Rattle.texts.specs.Pieces.{after};
 ghost use Rattle.params.specs.Calls.{giving, carrying, calling, borrowed, said, all_said, Answers};
 ghost use Rattle.params.specs.FirstFault.{by_fault_first};
 ghost use Rattle.params.specs.Laws.{ReadyScript};
@@ -10,7 +11,7 @@ use std::alloc::{AllocError, Global};
 use terms::failure::Failure;
 use terms::role::Role;
 use texts::columns::text_in;
-use texts::cutting::{count, cut};
+use texts::cutting::count;
 use texts::fault::{Fault, File, FileFault, LineFault};
 use texts::heading::{ended, names};
 use texts::words::{is, is_word};
@@ -30,29 +31,23 @@ pub type ScriptError = Failure<FileFault>;
 fn read_role(s: &[u8]) -> Result<Role, Fault>
     ensures { result ≡ read_role s.now }
 {
-    if is(s, "I") {
-        return Ok(Role::Initiator);
+    match s {
+        b"I" => Ok(Role::Initiator),
+        b"R" => Ok(Role::Responder),
+        _ => Err(Fault::WrongForm),
     }
-    if is(s, "R") {
-        return Ok(Role::Responder);
-    }
-    Err(Fault::WrongForm)
 }
 
 // What a call does, its message still to be read.
 fn read_deed(s: &[u8]) -> Result<Action<()>, Fault>
     ensures { result ≡ read_deed s.now }
 {
-    if is(s, "tick") {
-        return Ok(Action::Tick(()));
+    match s {
+        b"tick" => Ok(Action::Tick(())),
+        b"fetch" => Ok(Action::Fetch),
+        b"stop" => Ok(Action::Stop),
+        _ => Err(Fault::WrongForm),
     }
-    if is(s, "fetch") {
-        return Ok(Action::Fetch);
-    }
-    if is(s, "stop") {
-        return Ok(Action::Stop);
-    }
-    Err(Fault::WrongForm)
 }
 
 // The message of a tick: none for `-`, or a word.
@@ -108,14 +103,14 @@ fn owned(heap: Global, call: Call<&[u8]>) -> Result<Call<Vec<u8>>, AllocError>
     })
 }
 
-// The call that a text begins with, which is the given line of the script.
-fn read_call(heap: Global, text: &[u8], line: u16) -> Result<Call<Vec<u8>>, ScriptError>
-    ensures { Answers said (read_call line text.now) (is_ok (read_call line text.now) ≡ true) result }
+// The call that a text begins with, which is the given line of the script, and what stands behind it.
+fn read_call(heap: Global, text: &[u8], line: u16) -> Result<(Call<Vec<u8>>, &[u8]), ScriptError>
+    ensures value { Answers (λ p. said p.0) (read_call line text.now) (is_ok (read_call line text.now) ≡ true) result }
+    ensures behind { IfOk result (λ p. p.1.now ≡ after 10 text.now) }
 {
-    ended(text).map_err(|fault| fault.on(File::Script, line))?;
-    let (row, _) = cut(text, b'\n');
+    let (row, rest) = ended(text).map_err(|fault| fault.on(File::Script, line))?;
     let call = read_values(row).map_err(|fault| fault.on(File::Script, line))?;
-    Ok(owned(heap, call)?)
+    Ok((owned(heap, call)?, rest))
 }
 
 // The calls behind the names. The lines of a script count from 1, so the first call is line 2.
@@ -129,10 +124,9 @@ fn read_calls(heap: Global, text: &[u8]) -> Result<Vec<Call<Vec<u8>>>, ScriptErr
         if rest.is_empty() {
             return Ok(calls);
         }
-        let call = read_call(heap, rest, line)?;
+        let (call, behind) = read_call(heap, rest, line)?;
         calls.push(call)?;
-        let (_, more) = cut(rest, b'\n');
-        rest = more;
+        rest = behind;
     }
     if !rest.is_empty() {
         let fault = Fault::WrongCount.whole_line();
@@ -147,7 +141,6 @@ pub fn read_script(heap: Global, text: &[u8]) -> Result<Vec<Call<Vec<u8>>>, Scri
     ensures ready { IfOk result (λ v. ReadyScript (all_said v)) }
     ensures first { IfErr result (by_fault_first text.now) }
 {
-    names(text, NAMES).map_err(|fault| fault.on(File::Script, 1))?;
-    let (_, rest) = cut(text, b'\n');
-    read_calls(heap, rest)
+    let lines = names(text, NAMES).map_err(|fault| fault.on(File::Script, 1))?;
+    read_calls(heap, lines)
 }

@@ -16,14 +16,14 @@ returns-in_err-call c =
     let p = err_from_is_err_and c.from_residual.result c.from_residual.ensures.1 in
     rw (p.1, p.2)
     (reading_stops (all_said c.loop-line.calls) c.loop-line.line c.loop-line.rest.now c.args.text.now c.loop-line.invariant
-    c.loop-line-test.true (eqb-false _ _ (sym c.if-is_empty.ensures)) _ c.in_err-call.ensures)
+    c.loop-line-test.true (eqb-false _ _ (sym c.if-is_empty.ensures)) _ c.in_err-call.ensures.value)
 
 pub loop-line-preserved : goal.loop-line-preserved
 loop-line-preserved c =
     let more = reading_more (all_said c.loop-line.calls) c.loop-line.line c.loop-line.rest.now c.args.text.now c.loop-line.invariant
-    c.loop-line-test.true (eqb-false _ _ (sym c.if-is_empty.ensures)) (said c.in_ok-call.call) c.in_ok-call.ensures in
+    c.loop-line-test.true (eqb-false _ _ (sym c.if-is_empty.ensures)) (said c.in_ok-call.call) c.in_ok-call.ensures.value in
     let e : all_said c.push.new.self ≡ all_said c.loop-line.calls ++ said c.in_ok-call.call ∷ [] = ap (map said) c.in_ok-push.ensures.items ∙ map_push said (vec_items c.loop-line.calls) c.in_ok-call.call in
-    rw (e, c.cut.ensures.back) more
+    rw (e, c.in_ok-call.ensures.behind) more
 
 pub returns-then-not-is_empty : goal.returns-then-not-is_empty
 returns-then-not-is_empty c =
