@@ -49,14 +49,13 @@ fn print_sheet(rt: &HostRuntime, n: usize, text: &[u8], sheet: &Sheet) -> anyhow
 }
 
 fn print_call(rt: &HostRuntime, call: &Call<Vec<u8>>) -> anyhow::Result<()> {
-    let end = call.end;
-    match &call.action {
+    let Call { end, action } = call;
+    match action {
         Action::Tick(message) => {
             let bytes = message.len();
-            println!(rt; "  {end} tick {bytes}")?;
+            println!(rt; "  {end} {action} {bytes}")?;
         }
-        Action::Fetch => println!(rt; "  {end} fetch")?,
-        Action::Stop => println!(rt; "  {end} stop")?,
+        _ => println!(rt; "  {end} {action}")?,
     }
     Ok(())
 }
