@@ -1,6 +1,6 @@
 -- Laws of cutting a text, as the library's calls find the places.
-use Rattle.std.proofs.Common.{◌≡◌, ℕ, zero, suc, ◌+◌, ◌-◌, Bool, true, false, not, cond, eqb, nat_lt, List, [], ◌∷◌, length, get_or, take, drop, Some, None, Option, refl, ap, ◌∙◌, zero-add, arith}
-use Rattle.std.proofs.lemmas.List.{take_rest}
+use Rattle.std.proofs.Common.{◌≡◌, ℕ, zero, suc, ◌+◌, ◌-◌, ◌≤◌, Bool, true, false, not, cond, eqb, nat_lt, List, [], ◌∷◌, length, get_or, take, drop, Some, None, Option, sym, refl, ap, ◌∙◌, zero-add, arith}
+use Rattle.std.proofs.lemmas.List.{drop_all, take_all, take_rest}
 use Rattle.std.proofs.lemmas.List.Recursion.{is_count_by}
 use Rattle.std.proofs.lemmas.Bool.Decides.{nat_tests}
 use Rattle.std.specs.List.{position_or_len, position, count_by, slice_get, slice_split, onto_first}
@@ -31,6 +31,9 @@ module _ (c : ℕ) where
   found : (s : List ℕ) (i : ℕ) → position (λ b. eqb b c) s ≡ Some i → i ≡ length (before c s)
   found s i e = let p = place_is s in grind (arith, nat_tests)
 
+  missed : (s : List ℕ) → position (λ b. eqb b c) s ≡ None → length s ≤ length (before c s)
+  missed s e = let p = place_is s in grind (arith, nat_tests)
+
   -- what stands before the first c and behind it, as the code cuts it
   pub front_there : (s : List ℕ) (i : ℕ) → position (λ b. eqb b c) s ≡ Some i → take i s ≡ before c s
   front_there s i e = ap (λ n. take n s) (found s i e) ∙ before_take s
@@ -39,6 +42,12 @@ module _ (c : ℕ) where
   back_there s i e =
       let j : i + 1 ≡ suc (length (before c s)) = omega (arith, found s i e) in
       take_rest s (i + 1) ∙ ap (λ n. drop n s) j ∙ after_drop s
+
+  pub front_whole : (s : List ℕ) → position (λ b. eqb b c) s ≡ None → s ≡ before c s
+  front_whole s e = sym (take_all (length (before c s)) s (missed s e)) ∙ before_take s
+
+  pub back_none : (s : List ℕ) → position (λ b. eqb b c) s ≡ None → [] ≡ after c s
+  back_none s e = sym (drop_all (suc (length (before c s))) s (omega (arith, missed s e))) ∙ after_drop s
 
   -- a c stands there where one is counted
   there : (s : List ℕ) → nat_lt (position_or_len (λ b. eqb b c) s) (length s) ≡ not (eqb (count_of c s) 0)

@@ -1,5 +1,5 @@
 // Where a text is cut: at a byte, into what stands before it and what behind it.
-ghost use Rattle.std.specs.Prelude.{◌≡◌, ◌==◌, IfSome, is_none, position};
+ghost use Rattle.std.specs.Prelude.{◌≡◌, ◌==◌, [], MatchOption, is_none, position};
 ghost use Rattle.texts.specs.Pieces.{before, after, count_of, value_at};
 
 // Where the first `c` stands.
@@ -10,13 +10,21 @@ fn find(s: &[u8], c: u8) -> Option<usize>
 }
 
 // What stands before the first `c`, and what behind it; none where no `c` stands.
-#[tactic(auto, using(crate::proofs::Cuts::front_there, crate::proofs::Cuts::back_there, crate::proofs::Cuts::mark_there, crate::proofs::Cuts::mark_missing))]
-pub fn cut(s: &[u8], c: u8) -> Option<(&[u8], &[u8])>
-    ensures parts { IfSome result (λ p. (p.0.now ≡ before c s.now) × (p.1.now ≡ after c s.now)) }
+#[tactic(auto, using(crate::proofs::Cuts::front_there, crate::proofs::Cuts::back_there, crate::proofs::Cuts::front_whole, crate::proofs::Cuts::back_none, crate::proofs::Cuts::mark_there, crate::proofs::Cuts::mark_missing))]
+pub fn split_once(s: &[u8], c: u8) -> Option<(&[u8], &[u8])>
+    ensures parts { MatchOption result ((s.now ≡ before c s.now) × ([] ≡ after c s.now)) (λ p. (p.0.now ≡ before c s.now) × (p.1.now ≡ after c s.now)) }
     ensures missing { is_none result ≡ (count_of c s.now == 0) }
 {
     let i = find(s, c)?;
     Some((&s[..i], &s[i + 1..]))
+}
+
+// The same of any text: where no `c` stands, all of it stands before, and nothing behind.
+pub fn cut(s: &[u8], c: u8) -> (&[u8], &[u8])
+    ensures front { result.0.now ≡ before c s.now }
+    ensures back { result.1.now ≡ after c s.now }
+{
+    split_once(s, c).unwrap_or((s, &[]))
 }
 
 // How often `c` stands in `s`.

@@ -4,7 +4,7 @@ ghost use Rattle.texts.specs.Faults.{verdict};
 ghost use Rattle.texts.specs.Headings.{read_names, read_end};
 ghost use Rattle.texts.specs.Pieces.{before, after};
 
-use super::cutting::cut;
+use super::cutting::split_once;
 use super::fault::{Fault, LineFault};
 use super::words::is;
 
@@ -13,7 +13,7 @@ pub fn names<'a>(text: &'a [u8], wanted: &str) -> Result<&'a [u8], LineFault>
     ensures value { verdict result ≡ read_names wanted.now text.now }
     ensures behind { IfOk result (λ rest. rest.now ≡ after 10 text.now) }
 {
-    match cut(text, b'\n') {
+    match split_once(text, b'\n') {
         Some((line, rest)) if is(line, wanted) => Ok(rest),
         _ => Err(Fault::NamesDiffer.whole_line()),
     }
@@ -24,5 +24,5 @@ pub fn ended(text: &[u8]) -> Result<(&[u8], &[u8]), LineFault>
     ensures value { verdict result ≡ read_end text.now }
     ensures parts { IfOk result (λ p. (p.0.now ≡ before 10 text.now) × (p.1.now ≡ after 10 text.now)) }
 {
-    cut(text, b'\n').ok_or(Fault::WrongCount.whole_line())
+    split_once(text, b'\n').ok_or(Fault::WrongCount.whole_line())
 }
