@@ -7,6 +7,7 @@ use terms::counters::{ExecutionCycle, Ticks};
 use terms::role::Role;
 
 // The count runs beside the execution cycle, so it is never above it.
+// No `impl Model` with `end_value` as its view: a `Copy` type has to come back from its view alone, and the values alone do not say that `Params` has checked them.
 #[derive(Clone, Copy)]
 pub struct End {
     pub(crate) params: Params,
