@@ -4,6 +4,7 @@ ghost use Rattle.std.specs.Prelude.{◌*◌, ◌≤◌, IfOk, pos, negsuc, ◌�
 use crate::NO_MEMORY;
 use carrier::fifo::FifoWire;
 use carrier::{Carrier, GREATEST_LENGTH};
+use ends::buffers::Buffers;
 use ends::end::End;
 use ends::opening::{InitiatorNumbers, Opened, ResponderNumbers};
 use ends::session::{SessionNumber, SessionNumbers};
@@ -14,7 +15,7 @@ use rehearsal::rehearsing::WIRE;
 use std::alloc::{AllocError, Global};
 use terms::counters::{ExecutionCycle, Ticks};
 use terms::identifier::Identifier;
-use terms::lengths::{LONGEST_FRAME, LONGEST_MESSAGE};
+use terms::lengths::LONGEST_MESSAGE;
 use terms::role::Role;
 use terms::sides::Sides;
 
@@ -57,8 +58,7 @@ fn sheet() -> Sheet {
 #[derive(Drop)]
 struct Desk {
     wire: FifoWire,
-    fetched: [u8; GREATEST_LENGTH],
-    out: [u8; LONGEST_FRAME],
+    buffers: Buffers,
 }
 
 impl Desk {
@@ -66,13 +66,12 @@ impl Desk {
     fn new(heap: Global, initiator: usize, responder: usize) -> Result<Desk, AllocError> {
         Ok(Desk {
             wire: FifoWire::new(heap, initiator, responder)?,
-            fetched: [0; GREATEST_LENGTH],
-            out: [0; LONGEST_FRAME],
+            buffers: Buffers::new(),
         })
     }
 
     fn open<N: SessionNumbers>(&mut self, params: Params, numbers: N) -> Opened {
-        End::open(params, numbers, &mut self.wire, &mut self.out).unwrap()
+        End::open(params, numbers, &mut self.wire, &mut self.buffers.out).unwrap()
     }
 
     fn stop(&mut self, opened: Opened) {
@@ -85,15 +84,15 @@ impl Desk {
     }
 
     fn tick(&mut self, end: &mut End, message: &[u8]) {
-        let _ = end.tick(&mut self.wire, message, &mut self.out);
+        let _ = end.tick(&mut self.wire, message, &mut self.buffers.out);
     }
 
     // One fetch: how many messages it delivered.
     fn fetch(&mut self, end: &mut End) -> u64
         ensures { result ≤ 1 }
     {
-        let answer = end.fetch(&mut self.wire, &mut self.fetched, &mut self.out);
-        if answer.delivered.is_some() { 1 } else { 0 }
+        let answer = end.fetch(&mut self.wire, &mut self.buffers.fetched, &mut self.buffers.out);
+        u64::from(answer.delivered.is_some())
     }
 
     // Fetches until nothing comes: a round brings an end its far end's frame and at most one answer.
@@ -106,71 +105,87 @@ impl Desk {
     // Puts one string and fetches one; says whether one came.
     fn turn(&mut self, string: &[u8]) -> bool {
         let _ = self.wire.put(Role::Initiator, string);
-        matches!(
-            self.wire.fetch(Role::Responder, &mut self.fetched),
-            Ok(Some(_))
-        )
+        matches!(self.wire.fetch(Role::Responder, &mut self.buffers.fetched), Ok(Some(_)))
     }
 }
 
-// Three fetches each, one after another: after the opening, both are up.
-fn come_up(desk: &mut Desk, ends: &mut Sides<Opened>) {
-    for _ in 0..3 {
-        let _ = desk.fetch(&mut ends.responder.end);
-        let _ = desk.fetch(&mut ends.initiator.end);
-    }
+// Both ends on a desk, each beside the token that its stop takes back.
+struct Served {
+    desk: Desk,
+    ends: Sides<Opened>,
 }
 
-// Both tick, the initiator with the message, and both fetch: how many messages the responder was delivered.
-fn round(desk: &mut Desk, ends: &mut Sides<Opened>, message: &[u8]) -> u64
-    ensures { result ≤ 3 }
-{
-    desk.tick(&mut ends.initiator.end, message);
-    desk.tick(&mut ends.responder.end, &[]);
-    let _ = desk.fetches(&mut ends.initiator.end);
-    desk.fetches(&mut ends.responder.end)
-}
-
-// So many rounds.
-fn rounds(desk: &mut Desk, ends: &mut Sides<Opened>, message: &[u8], times: u32) -> u64
-    ensures { result ≤ 3 * times }
-{
-    let mut delivered = 0;
-    for time in 0..times {
-        delivered += round(desk, ends, message);
+impl Served {
+    // Opens both, the initiator first.
+    fn new(mut desk: Desk) -> Served {
+        let sheet = sheet();
+        let numbers = InitiatorNumbers {
+            rb: SessionNumber::new(1),
+            rc: SessionNumber::new(2),
+        };
+        let initiator = desk.open(sheet.initiator, numbers);
+        let numbers = ResponderNumbers {
+            ra: SessionNumber::new(3),
+        };
+        let responder = desk.open(sheet.responder, numbers);
+        Served {
+            desk,
+            ends: Sides {
+                initiator,
+                responder,
+            },
+        }
     }
-    delivered
+
+    // Three fetches each, one after another: after the opening, both are up.
+    fn come_up(&mut self) {
+        for _ in 0..3 {
+            let _ = self.desk.fetch(&mut self.ends.responder.end);
+            let _ = self.desk.fetch(&mut self.ends.initiator.end);
+        }
+    }
+
+    // Both tick, the initiator with the message, and both fetch: how many messages the responder was delivered.
+    fn round(&mut self, message: &[u8]) -> u64
+        ensures { result ≤ 3 }
+    {
+        self.desk.tick(&mut self.ends.initiator.end, message);
+        self.desk.tick(&mut self.ends.responder.end, &[]);
+        let _ = self.desk.fetches(&mut self.ends.initiator.end);
+        self.desk.fetches(&mut self.ends.responder.end)
+    }
+
+    // So many rounds.
+    fn rounds(&mut self, message: &[u8], times: u32) -> u64
+        ensures { result ≤ 3 * times }
+    {
+        let mut delivered = 0;
+        for time in 0..times {
+            delivered += self.round(message);
+        }
+        delivered
+    }
+
+    // Stops both.
+    fn stop(self) {
+        let Served { mut desk, ends } = self;
+        let Sides {
+            initiator,
+            responder,
+        } = ends;
+        desk.stop(initiator);
+        desk.stop(responder);
+    }
 }
 
 // Opens two ends on a new wire, serves them so many rounds with the message, and stops both.
 fn serve(heap: Global, message: &[u8], times: u32) -> Result<u64, AllocError>
     ensures { IfOk result (λ delivered. delivered ≤ 3 * times) }
 {
-    let mut desk = Desk::new(heap, WIRE, WIRE)?;
-    let sheet = sheet();
-    let mut ends = Sides {
-        initiator: desk.open(
-            sheet.initiator,
-            InitiatorNumbers {
-                rb: SessionNumber::new(1),
-                rc: SessionNumber::new(2),
-            },
-        ),
-        responder: desk.open(
-            sheet.responder,
-            ResponderNumbers {
-                ra: SessionNumber::new(3),
-            },
-        ),
-    };
-    come_up(&mut desk, &mut ends);
-    let delivered = rounds(&mut desk, &mut ends, message, times);
-    let Sides {
-        initiator,
-        responder,
-    } = ends;
-    desk.stop(initiator);
-    desk.stop(responder);
+    let mut served = Served::new(Desk::new(heap, WIRE, WIRE)?);
+    served.come_up();
+    let delivered = served.rounds(message, times);
+    served.stop();
     Ok(delivered)
 }
 

@@ -5,10 +5,10 @@ ghost use Rattle.link.specs.Runs.{at_place};
 ghost use Rattle.link.specs.Seats.{OpensSeats, Steps, Plays, Within, link_value};
 ghost use Rattle.link.specs.Tells.{Closed, Tells};
 
-use crate::buffers::Buffers;
 use crate::seat::Seat;
-use carrier::{Carrier, GREATEST_LENGTH};
+use carrier::Carrier;
 use ends::answer::{Answer, Place};
+use ends::buffers::Buffers;
 use ends::opening::{InitiatorNumbers, ResponderNumbers};
 use ends::session::SessionNumber;
 use params::call::Call;
@@ -99,10 +99,7 @@ impl Seats {
     ) -> Result<Vec<Line>, AllocError>
         ensures { Plays (link_value (C.meaning carrier.old) self.old) (link_value (C.meaning carrier.new) self.new) calls.now result }
     {
-        let mut buffers = Buffers {
-            fetched: [0; GREATEST_LENGTH],
-            out: [0; LONGEST_FRAME],
-        };
+        let mut buffers = Buffers::new();
         let mut lines = Vec::new(heap);
         for call in calls {
             let answer = self.step(carrier, call, &mut buffers);

@@ -4,9 +4,9 @@ ghost use Rattle.ends.specs.Ends.{end_value};
 ghost use Rattle.link.specs.Seats.{seat_value, OpensSeat, Acts, StopActs};
 ghost use Rattle.link.specs.Tells.{LetGo};
 
-use crate::buffers::Buffers;
 use carrier::Carrier;
 use ends::answer::Answer;
+use ends::buffers::Buffers;
 use ends::end::End;
 use ends::opening::Opened;
 use ends::session::{SessionNumbers, StopToken};
@@ -57,9 +57,7 @@ impl Seat {
             Some(token) => self.end.stop(carrier, token),
             None => Answer {
                 refused: Some(Refusal::EndIsOut),
-                status: self.end.status(),
-                delivered: None,
-                put: None,
+                ..self.end.idle()
             },
         }
     }

@@ -17,7 +17,7 @@ fn shown(byte: u8) -> char
     if byte < 128 { char::from(byte) } else { '?' }
 }
 
-// The text of delivered bytes, `-` for none.
+// The text of delivered bytes, `-` for none. A text and no `Display`: that was tried, and what its loop has written is not found.
 fn got_text(heap: Global, got: &[u8]) -> Result<String, AllocError>
     ensures { IfOk result (λ t. string_bytes t ≡ got_text got.now) }
 {

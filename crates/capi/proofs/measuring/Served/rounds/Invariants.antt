@@ -1,5 +1,5 @@
 use Rattle.std.proofs.Common.{◌*◌, ◌≤◌}
-use Rattle.capi.proofs.measuring.rounds.Given as goal
+use Rattle.capi.proofs.measuring.Served.rounds.Given as goal
 
 -- each round delivers at most three messages
 abbrev pub invariant-loop-time : goal.invariant-loop-time
