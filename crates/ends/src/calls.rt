@@ -58,7 +58,7 @@ fn place(way: FetchWay, n: usize) -> Option<Place>
 
 impl End {
     // The answer by the end's state as it is now, of a call that was not refused and did nothing.
-    pub(crate) fn idle(&self) -> Answer
+    pub fn idle(&self) -> Answer
         ensures { result ≡ answering (end_value self.now) None None None }
     {
         Answer {
