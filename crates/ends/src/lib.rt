@@ -3,6 +3,7 @@
 
 pub mod answer;
 mod arrival;
+pub mod buffers;
 pub mod calls;
 mod effects;
 pub mod end;
