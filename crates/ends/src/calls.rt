@@ -73,13 +73,10 @@ impl End {
     fn answer_of(&self, tried: Result<Answer, Refusal>) -> Answer
         ensures { result ≡ answer_of (end_value self.now) tried }
     {
-        match tried {
-            Ok(answer) => answer,
-            Err(refused) => Answer {
-                refused: Some(refused),
-                ..self.idle()
-            },
-        }
+        tried.unwrap_or_else(|refused| Answer {
+            refused: Some(refused),
+            ..self.idle()
+        })
     }
 
     // Whether the end is not out: what a call asks last.
