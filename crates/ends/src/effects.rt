@@ -1,5 +1,5 @@
 // What each rule does to an end, and the frame that it puts.
-ghost use Rattle.std.specs.Prelude.{◌≡◌, ◌+◌, ◌<◌, ◌≤◌, true, length};
+ghost use Rattle.std.specs.Prelude.{◌≡◌, ◌+◌, ◌<◌, ◌≤◌, ◌==◌, true, cond, length, None, Some};
 ghost use Rattle.terms.specs.Buffers.{overlay};
 ghost use Rattle.codec.specs.Frames.{frame_value, bytes_of, sized};
 ghost use Rattle.codec.specs.Sealing.{sealed};
@@ -7,7 +7,7 @@ ghost use Rattle.codec.specs.Telegrams.{telegram_value, telegram_bytes, content_
 ghost use Rattle.ends.specs.Ends.{end_value};
 ghost use Rattle.states.specs.States.{in_up};
 ghost use Rattle.ends.specs.Ways.{greatest};
-ghost use Rattle.ends.specs.Effects.{after_tick, after_fetch, after_first, in_state, one_more, risen, released, restarted, started, taken_up, words_by, Numbered, Room};
+ghost use Rattle.ends.specs.Effects.{after_tick, after_fetch, after_first, in_state, number, one_more, risen, released, restarted, started, taken_up, words_by, Numbered, Room};
 
 use super::end::End;
 use super::ways::{Exchange, FetchWay, TickWay};
@@ -119,15 +119,17 @@ impl End {
                     synced,
                 };
             }
-            Exchange::Req if sent.0 == u32::MAX => self.release(Reason::CounterUsedUp),
-            Exchange::Req => {
-                self.state = State::Up {
-                    words,
-                    sent: SequenceNumber(sent.0 + 1),
-                    last: sn,
-                    synced,
-                };
-            }
+            Exchange::Req => match next(sent) {
+                None => self.release(Reason::CounterUsedUp),
+                Some(sent) => {
+                    self.state = State::Up {
+                        words,
+                        sent,
+                        last: sn,
+                        synced,
+                    };
+                }
+            },
             Exchange::Ack => self.restart(State::Up {
                 words,
                 sent,
@@ -193,6 +195,13 @@ impl End {
             }),
         }
     }
+}
+
+// The number after this one, if there is any.
+pub(crate) fn next(sn: SequenceNumber) -> Option<SequenceNumber>
+    ensures { result ≡ cond (sn.0 == greatest) None (Some (number (sn.0 + 1))) }
+{
+    sn.0.checked_add(1).map(SequenceNumber)
 }
 
 // The number of the last data frame that a responder has put when it comes up.

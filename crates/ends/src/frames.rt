@@ -9,6 +9,7 @@ ghost use Rattle.ends.specs.Puts.{longest_frame, Lays};
 ghost use Rattle.ends.specs.Ways.{greatest};
 ghost use Rattle.ends.specs.Effects.{risen, Room, Numbered, release_frame, start_frame, ack_frame, sent_frame, tick_put, answer_up, fetch_put, put_telegram, put_opening};
 
+use super::effects::next;
 use super::end::End;
 use super::ways::{Exchange, FetchWay, TickWay};
 use codec::frame::Frame;
@@ -133,11 +134,10 @@ impl End {
         ensures { Lays (answer_up (end_value self.now) word sent kind) out.old out.new result }
     {
         match kind {
-            Exchange::Req if sent.0 == u32::MAX => Some(self.lay_release(
-                Reason::CounterUsedUp,
-                out,
-            )),
-            Exchange::Req => Some(self.lay_ack(word, SequenceNumber(sent.0 + 1), out)),
+            Exchange::Req => Some(match next(sent) {
+                None => self.lay_release(Reason::CounterUsedUp, out),
+                Some(sn) => self.lay_ack(word, sn, out),
+            }),
             _ => None,
         }
     }
