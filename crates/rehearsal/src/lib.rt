@@ -2,6 +2,5 @@
 #![tactic(auto)]
 
 mod columns;
-pub mod faults;
 mod listing;
 pub mod rehearsing;

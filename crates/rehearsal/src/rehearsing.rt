@@ -2,7 +2,6 @@
 ghost use Rattle.std.specs.Prelude.{◌≡◌, IfOk, string_bytes};
 ghost use Rattle.rehearsal.specs.Rehearsals.{Performed, Prints, Rehearses};
 
-use crate::faults::FaultLine;
 use crate::listing::listing;
 use carrier::fifo::FifoWire;
 use ends::session::SessionNumber;
@@ -53,7 +52,7 @@ pub fn printed(heap: Global, sheet: &[u8], script: &[u8]) -> Result<String, Rehe
     ensures { IfOk result (λ t. Prints sheet.now script.now (string_bytes t)) }
 {
     match rehearse(heap, sheet, script) {
-        Err(RehearsalError::Cause(fault)) => Ok(FaultLine(fault).to_string(heap)?),
+        Err(RehearsalError::Cause(fault)) => Ok(format!(in heap; "{fault}\n")?),
         done => done,
     }
 }

@@ -3,7 +3,6 @@
 #![tactic(auto)]
 
 use anyhow::anyhow;
-use rehearsal::faults::FaultLine;
 use rehearsal::rehearsing::{RehearsalError, rehearse};
 use std::fs;
 use std::process::ExitCode;
@@ -23,7 +22,7 @@ fn main(rt: HostRuntime) -> anyhow::Result<ExitCode> {
             Ok(ExitCode::SUCCESS)
         }
         Err(RehearsalError::Cause(fault)) => {
-            rt.print(FaultLine(fault))?;
+            println!(rt; "{fault}")?;
             Ok(ExitCode::FAILURE)
         }
         Err(RehearsalError::NoMemory) => Err(anyhow!("no memory")),
