@@ -3,6 +3,7 @@ use Rattle.std.specs.Prelude.{ℕ, ◌-◌, cond, ◌&&◌, List, length, take, 
 use Rattle.std.specs.Str.{bytes_eq}
 use Rattle.terms.specs.Outcomes.{then}
 use Rattle.terms.specs.declared.identifier.Identifier.{Identifier}
+use Rattle.captures.specs.declared.check.Checks.{Checks}
 use Rattle.captures.specs.declared.line.Line.{Line}
 use Rattle.captures.specs.declared.line.Line.TheVariants.{Note, Frame, Packet, Crc}
 use Rattle.captures.specs.declared.line.LineFault.{LineFault}
@@ -15,13 +16,13 @@ pub data LineValue : Type 0 where
   note : LineValue
   frame : List ℕ → LineValue
   packet : List ℕ → LineValue
-  crc : ℕ → ℕ → List ℕ → LineValue
+  crc : Checks → List ℕ → LineValue
 
 abbrev pub line_value : Line → LineValue
 line_value Note = note
 line_value (Frame text) = frame text.now
 line_value (Packet text) = packet text.now
-line_value (Crc first second text) = crc first second text.now
+line_value (Crc checks text) = crc checks text.now
 
 abbrev pub line_values : Result Line LineFault → Result LineValue LineFault
 line_values (Ok l) = Ok (line_value l)
@@ -37,7 +38,7 @@ read_crc text =
     cond (nat_le 18 (length text))
     (cond (slice_index text 8 == 32)
     (cond (slice_index text 17 == 32)
-    (then (word_value (take 8 text)) (λ first. then (word_value (take 8 (drop 9 text))) (λ second. Ok (crc first second (drop 18 text)))))
+    (then (word_value (take 8 text)) (λ first. then (word_value (take 8 (drop 9 text))) (λ second. Ok (crc record { first = first; second = second } (drop 18 text)))))
     (Err NotHex))
     (Err NotHex))
     (Err NotHex)

@@ -2,6 +2,7 @@
 ghost use Rattle.std.specs.Prelude.{◌≡◌};
 ghost use Rattle.captures.specs.Lines.{text_of, line_values, read_line, read_crc};
 
+use super::check::Checks;
 use super::hex::word;
 use terms::failure::Cause;
 
@@ -26,11 +27,7 @@ pub enum Line<'a> {
     Frame(&'a [u8]),
     Packet(&'a [u8]),
     // a string with the two checks that it should have
-    Crc {
-        first: u32,
-        second: u32,
-        bytes: &'a [u8],
-    },
+    Crc { checks: Checks, bytes: &'a [u8] },
 }
 
 // A line without the LF that ends it.
@@ -47,9 +44,12 @@ fn crc_in(text: &[u8]) -> Result<Line<'_>, LineFault>
     if text.len() < 18 || text[8] != b' ' || text[17] != b' ' {
         return Err(LineFault::NotHex);
     }
-    Ok(Line::Crc {
+    let checks = Checks {
         first: word(&text[..8])?,
         second: word(&text[9..17])?,
+    };
+    Ok(Line::Crc {
+        checks,
         bytes: &text[18..],
     })
 }

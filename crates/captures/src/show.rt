@@ -1,5 +1,5 @@
 // What is printed of the first line, a string with its checks, and a wrong line.
-use super::check::Walk;
+use super::check::{Checks, Walk};
 use super::line::LineFault;
 use super::parties::Parties;
 use std::fmt;
@@ -14,8 +14,7 @@ impl fmt::Display for Parties {
 
 impl fmt::Display for Walk {
     fn fmt<W: fmt::Write>(&self, f: &mut fmt::Formatter<W>) -> fmt::Result {
-        let first = self.first;
-        let second = self.second;
+        let Checks { first, second } = self.checks;
         let agrees = if self.agrees { "yes" } else { "no" };
         write!(f, "first={first:08X} second={second:08X} agrees={agrees}")
     }

@@ -71,7 +71,7 @@ impl<'a> Report<'a> {
             Line::Note => Ok(Outcome::Note),
             Line::Frame(_) => self.frame_line(bytes),
             Line::Packet(_) => self.packet_line(bytes),
-            Line::Crc { first, second, .. } => self.crc_line(Walk::of(bytes, first, second)),
+            Line::Crc { checks, .. } => self.crc_line(Walk::of(bytes, checks)),
         }
     }
 
