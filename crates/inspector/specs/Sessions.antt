@@ -1,5 +1,5 @@
 -- What the frames of a session say one after another.
-use Rattle.std.specs.Prelude.{ℕ, cond, List, Some, None, Ok, Err, Option, Result, ◌==◌, bit_xor}
+use Rattle.std.specs.Prelude.{ℕ, Bool, cond, List, Some, None, Ok, Err, Option, Result, ◌==◌, bit_xor}
 use Rattle.terms.specs.declared.refusal.Refusal.{Refusal}
 use Rattle.terms.specs.declared.role.Role.{Role}
 use Rattle.terms.specs.declared.role.Role.TheVariants.{Initiator, Responder}
@@ -10,6 +10,7 @@ use Rattle.terms.specs.Numbers.{number}
 use Rattle.terms.specs.Outcomes.{then}
 use Rattle.codec.specs.Sealing.{guarded}
 use Rattle.codec.specs.Telegrams.{TelegramValue, telegram_value, read_telegram}
+use Rattle.safety.specs.declared.word.SafetyWord.{SafetyWord}
 use Rattle.safety.specs.Words.{word_borne, connection_word}
 use Rattle.captures.specs.declared.parties.Parties.{Parties}
 use Rattle.inspector.specs.declared.session.Session.{Session}
@@ -39,23 +40,27 @@ heard s (Ok (dt towards telegram code)) = s
 heard s (Err e) = s
 
 -- a word from the receiver's identifier and the sender's session number
-abbrev pub worded : Identifier → Option ℕ → Option ℕ
-worded receiver (Some r) = Some (connection_word receiver r)
+abbrev pub worded : Identifier → Option ℕ → Option SafetyWord
+worded receiver (Some r) = Some record { 0 = connection_word receiver r }
 worded receiver None = None
 
 -- the connection's word: the responder's identifier with Rc on the initiator's frames, the initiator's with Ra on the responder's
-abbrev pub word_from : Option Parties → Role → Option ℕ → Option ℕ → Option ℕ
+abbrev pub word_from : Option Parties → Role → Option ℕ → Option ℕ → Option SafetyWord
 word_from None receiver ra rc = None
 word_from (Some p) Initiator ra rc = worded p.identifiers.initiator ra
 word_from (Some p) Responder ra rc = worded p.identifiers.responder rc
 
-abbrev pub word_towards : Session → Role → Option ℕ
+abbrev pub word_towards : Session → Role → Option SafetyWord
 word_towards s receiver = word_from s.parties receiver s.ra s.rc
 
--- whether a number is the one wanted
-abbrev pub compared : ℕ → Option ℕ → Verdict
-compared x (Some y) = cond (x == y) Same Different
-compared x None = Unknown
+-- whether two words are one
+abbrev pub one_word : SafetyWord → SafetyWord → Bool
+one_word v w = v.0 == w.0
+
+-- whether a number or a word is the one wanted, where `equal` says which are one
+abbrev pub compared : {T : Type 0} → (T → T → Bool) → T → Option T → Verdict
+compared equal x (Some y) = cond (equal x y) Same Different
+compared equal x None = Unknown
 
 -- what a frame says, and what follows from it in the session, wherever its bytes lie
 pub data FindingValue : Type 0 where
@@ -82,7 +87,7 @@ finding_values (Err e) = Err e
 
 -- a data frame: its telegram, the word it bears, and whether that is the connection's
 abbrev pub data_found : Session → Role → List ℕ → ℕ → Result FindingValue Refusal
-data_found s towards telegram word = then (read_telegram telegram) (λ t. Ok (dt_found towards t word (compared word (word_towards s towards))))
+data_found s towards telegram word = then (read_telegram telegram) (λ t. Ok (dt_found towards t word (compared one_word record { 0 = word } (word_towards s towards))))
 
 -- what a frame says in a session that has heard it
 abbrev pub finding_of : Session → FrameValue → Result FindingValue Refusal
@@ -90,7 +95,7 @@ finding_of s bare_di = Ok bare_di_found
 finding_of s (au1 rb) = Ok (au1_found rb)
 finding_of s (au2 mix) = Ok (au2_found mix s.ra)
 finding_of s (au3 mix) = Ok (au3_found mix s.rc)
-finding_of s (ar rb) = Ok (ar_found rb (compared rb s.rb))
+finding_of s (ar rb) = Ok (ar_found rb (compared ◌==◌ rb s.rb))
 finding_of s (di towards codes) = Ok (di_found towards codes)
 finding_of s (dt towards telegram code) = data_found s towards telegram (word_borne (number 0 code) (guarded towards telegram))
 

@@ -26,7 +26,7 @@ pub struct Session {
     pub rc: Option<u64>,
 }
 
-// Whether a number is the one that the session wants.
+// Whether a number or a word is the one that the session wants.
 #[derive(Clone, Copy)]
 pub enum Verdict {
     Same,
@@ -89,8 +89,8 @@ fn unmix(mix: u64, other: Option<u64>) -> Option<u64>
     other.map(|number| mix ^ number)
 }
 
-fn compare(x: u64, wanted: Option<u64>) -> Verdict
-    ensures { result ≡ compared x wanted }
+fn compare<T: PartialEq + Copy>(x: T, wanted: Option<T>) -> Verdict
+    ensures { result ≡ compared T.eq x wanted }
 {
     match wanted {
         Some(y) if x == y => Verdict::Same,
@@ -114,7 +114,7 @@ impl Session {
     }
 
     // The word of the frames that the receiver is to accept.
-    fn word_towards(self, receiver: Role) -> Option<u64>
+    fn word_towards(self, receiver: Role) -> Option<SafetyWord>
         ensures { result ≡ word_towards self receiver }
     {
         let parties = self.parties?;
@@ -122,7 +122,7 @@ impl Session {
             Role::Initiator => self.ra,
             Role::Responder => self.rc,
         };
-        session.map(|number| SafetyWord::of(*parties.identifiers.at(receiver), number).0)
+        session.map(|number| SafetyWord::of(*parties.identifiers.at(receiver), number))
     }
 
     // An AU1 begins anew; an AU2 gives Ra, an AU3 Rc.
@@ -175,7 +175,7 @@ impl Session {
                     towards,
                     telegram: Telegram::read(telegram)?,
                     word,
-                    verdict: compare(word.0, self.word_towards(towards)),
+                    verdict: compare(word, self.word_towards(towards)),
                 })
             }
         }

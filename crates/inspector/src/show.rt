@@ -2,6 +2,7 @@
 use super::session::{Envelope, Finding, Unwrapped, Verdict};
 use super::tally::Tally;
 use codec::telegram::{Content, Telegram};
+use packets::packet::TransportNumber;
 use std::fmt;
 use terms::refusal::Refusal;
 use terms::role::Role;
@@ -154,25 +155,30 @@ impl fmt::Display for Unwrapped<'_> {
 
 impl fmt::Display for Envelope {
     fn fmt<W: fmt::Write>(&self, f: &mut fmt::Formatter<W>) -> fmt::Result {
-        let number = self.number.0;
-        let n_r = self.n_r;
-        let packet_type = u8::from(self.packet_type);
-        write!(f, "number={number} n/r={n_r} type={packet_type}")
+        let Envelope {
+            number: TransportNumber(number),
+            n_r,
+            packet_type,
+        } = *self;
+        let code = u8::from(packet_type);
+        write!(f, "number={number} n/r={n_r} type={code}")
     }
 }
 
 impl fmt::Display for Tally {
     fn fmt<W: fmt::Write>(&self, f: &mut fmt::Formatter<W>) -> fmt::Result {
-        let lines = self.lines;
-        let wrong = self.wrong;
-        let frames = self.frames;
-        let packets = self.packets;
-        let refused = self.refused;
-        let same = self.same;
-        let different = self.different;
-        let unknown = self.unknown;
-        let crcs = self.crcs;
-        let disagreeing = self.disagreeing;
+        let Tally {
+            lines,
+            wrong,
+            frames,
+            packets,
+            refused,
+            same,
+            different,
+            unknown,
+            crcs,
+            disagreeing,
+        } = *self;
         write!(
             f,
             "sum lines={lines} wrong={wrong} frames={frames} packets={packets} refused={refused} "

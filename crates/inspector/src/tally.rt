@@ -25,7 +25,7 @@ pub enum Outcome {
 }
 
 // Each count stops at the largest number of 64 bits.
-#[derive(Clone, Copy)]
+#[derive(Clone, Copy, Default)]
 pub struct Tally {
     pub lines: u64,
     pub wrong: u64,
@@ -51,18 +51,7 @@ impl Tally {
     pub fn new() -> Tally
         ensures { result ≡ nothing }
     {
-        Tally {
-            lines: 0,
-            wrong: 0,
-            frames: 0,
-            packets: 0,
-            refused: 0,
-            same: 0,
-            different: 0,
-            unknown: 0,
-            crcs: 0,
-            disagreeing: 0,
-        }
+        Tally::default()
     }
 
     fn see(&mut self, seen: Seen)
