@@ -138,9 +138,9 @@ impl End {
         ensures exact { TickStep C.putting carrier.old carrier.new (end_value self.old) (C.meaning carrier.old).largest message.now out.old }
     {
         takes_frames(carrier)?;
-        let Some(room) = out.first_chunk_mut::<LONGEST_FRAME>() else {
-            return Err(Refusal::BufferTooShort);
-        };
+        let room = out
+            .first_chunk_mut::<LONGEST_FRAME>()
+            .ok_or(Refusal::BufferTooShort)?;
         self.is_running()?;
         let laid = self.go_on(message, room);
         put(carrier, self.role, laid, room);
@@ -188,9 +188,9 @@ impl End {
         if buf.len() < carrier.max_len() {
             return Err(Refusal::BufferTooShort);
         }
-        let Some(room) = out.first_chunk_mut::<LONGEST_FRAME>() else {
-            return Err(Refusal::BufferTooShort);
-        };
+        let room = out
+            .first_chunk_mut::<LONGEST_FRAME>()
+            .ok_or(Refusal::BufferTooShort)?;
         self.is_running()?;
         let Some(n) = carrier.fetch(self.role, buf).unwrap() else {
             return Ok(self.idle());

@@ -120,9 +120,9 @@ fn try_open<C: Carrier, N: SessionNumbers>(
     ensures exact { OpeningStep C.putting carrier.old carrier.new N.role (N.first numbers.now) (C.meaning carrier.old).largest out.old }
 {
     takes_frames(carrier)?;
-    let Some(room) = out.first_chunk_mut::<LONGEST_FRAME>() else {
-        return Err(Refusal::BufferTooShort);
-    };
+    let room = out
+        .first_chunk_mut::<LONGEST_FRAME>()
+        .ok_or(Refusal::BufferTooShort)?;
     let end = first(params, N::role(), numbers.first_state());
     let laid = lay_first(end.state, room);
     put(carrier, end.role, laid, room);

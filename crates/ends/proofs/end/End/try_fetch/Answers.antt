@@ -1,4 +1,6 @@
-use Rattle.std.proofs.Common.{◌≡◌, ℕ, ◌-◌, ◌≤◌, List, ◌++◌, length, take, drop, Some, None, Ok, Err, Option, refl, sym, ap, ◌∙◌, subst, ap₂, arith, length-take, rules}
+use Rattle.std.proofs.Common.{◌≡◌, ℕ, ◌-◌, ◌≤◌, List, ◌++◌, length, take, drop, Some, None, Ok, Err, Option, refl, sym, ap, ◌∙◌, subst, ap₂, arith, length-take, rules, ◌<◌}
+use Rattle.std.specs.Array.{IsFirstChunk}
+use Rattle.std.specs.Option.{MatchOption}
 use native.Mathlib.Nat.{sub-zero}
 use Rattle.terms.specs.declared.role.Role.{Role}
 use Rattle.terms.specs.Numbers.{Bytes}
@@ -22,16 +24,16 @@ returns-in_err-is_running g c =
     let buf = c.args.buf.now in
     let out = c.args.out.now in
     let x = c.in_err-is_running.field-0.0 in
-    let chunk = c.in-Some.ensures.cases in
+    let chunk : IsFirstChunk out c.in_ok-room.room.now longest_frame = subst (λ o. MatchOption o (length out < longest_frame) (λ y. IsFirstChunk out y.now longest_frame)) c.in_ok-room.ensures.ok_part c.first_chunk_mut.ensures.cases in
     let long : m.largest ≤ length buf = omega arith in
     let refused : fetch_refusal e m.largest (length buf) (length out) ≡ Some x = fetch_judged e _ _ _ _ c.in_ok-takes_frames.ensures long chunk.enough c.in_err-is_running.ensures in
     let is : c.from_residual-in_err-is_running.result ≡ Err x = failed _ x c.from_residual-in_err-is_running.ensures.1 in
     let r = answer_of e c.from_residual-in_err-is_running.result in
     record {
       rules =
-          subst (λ o. Fetched o e e m m buf buf out (c.in-Some.room.now ++ drop longest_frame out) r) (sym refused)
+          subst (λ o. Fetched o e e m m buf buf out (c.in_ok-room.room.now ++ drop longest_frame out) r) (sym refused)
           record { call = record { answer = ap (answer_of e) is; end = refl; carrier = refl; output = kept_out _ _ _ chunk }; buffer = refl };
-      exact = subst (λ o. FetchStepped o g.C.Carrier.putting g.C.Carrier.fetching c.args.carrier.now c.args.carrier.now e e buf buf out (c.in-Some.room.now ++ drop longest_frame out) r) (sym refused) refl;
+      exact = subst (λ o. FetchStepped o g.C.Carrier.putting g.C.Carrier.fetching c.args.carrier.now c.args.carrier.now e e buf buf out (c.in_ok-room.room.now ++ drop longest_frame out) r) (sym refused) refl;
     }
 
 pub unwrap-requires : goal.unwrap-requires
@@ -39,22 +41,22 @@ unwrap-requires g c =
     let long : (g.C.Carrier.meaning c.args.carrier.now).largest ≤ length c.args.buf.now = omega arith in
     fetched _ _ _ _ _ c.fetch.result long c.fetch.ensures.rules
 
-pub returns-in_default-unwrap : goal.returns-in_default-unwrap
-returns-in_default-unwrap g c =
+pub returns-in_default : goal.returns-in_default
+returns-in_default g c =
     let e = end_value c.args.self.now in
     let m = g.C.Carrier.meaning c.args.carrier.now in
     let m' = g.C.Carrier.meaning c.fetch.new.self in
     let buf = c.args.buf.now in
     let buf' = c.fetch.new.buf in
     let out = c.args.out.now in
-    let chunk = c.in-Some.ensures.cases in
+    let chunk : IsFirstChunk out c.in_ok-room.room.now longest_frame = subst (λ o. MatchOption o (length out < longest_frame) (λ y. IsFirstChunk out y.now longest_frame)) c.in_ok-room.ensures.ok_part c.first_chunk_mut.ensures.cases in
     let long : m.largest ≤ length buf = omega arith in
     let none : fetch_refusal e m.largest (length buf) (length out) ≡ None = fetch_judged e _ _ _ _ c.in_ok-takes_frames.ensures long chunk.enough c.in_ok-is_running.ensures in
     let is : c.fetch.result ≡ Ok None = search rules in
     let output = kept_out _ _ _ chunk in
     record {
       rules =
-          subst (λ o. Fetched o e e m m' buf buf' out (c.in-Some.room.now ++ drop longest_frame out) c.idle.result) (sym none)
+          subst (λ o. Fetched o e e m m' buf buf' out (c.in_ok-room.room.now ++ drop longest_frame out) c.idle.result) (sym none)
           record {
             came = None;
             between = m';
@@ -66,7 +68,7 @@ returns-in_default-unwrap g c =
             answer = c.idle.ensures;
           };
       exact =
-          subst (λ o. FetchStepped o g.C.Carrier.putting g.C.Carrier.fetching c.args.carrier.now c.fetch.new.self e e buf buf' out (c.in-Some.room.now ++ drop longest_frame out) c.idle.result) (sym none)
+          subst (λ o. FetchStepped o g.C.Carrier.putting g.C.Carrier.fetching c.args.carrier.now c.fetch.new.self e e buf buf' out (c.in_ok-room.room.now ++ drop longest_frame out) c.idle.result) (sym none)
           record {
             came = None;
             between = c.fetch.new.self;
@@ -82,7 +84,7 @@ pub put-requires : goal.put-requires
 put-requires g c =
     let e = end_value c.args.self.now in
     let l = c.take-delivered in
-    (laid_in (fetch_put e (fetch_way e (take (c.in-Some-unwrap.n - 0) c.fetch.new.buf))) _ c.args.out.now c.in-Some.room.now l.new.out l.result.1 c.in-Some.ensures.cases l.array_long l.ensures.laid).fits
+    (laid_in (fetch_put e (fetch_way e (take (c.in-Some.n - 0) c.fetch.new.buf))) _ c.args.out.now c.in_ok-room.room.now l.new.out l.result.1 (subst (λ o. MatchOption o (length c.args.out.now < longest_frame) (λ y. IsFirstChunk c.args.out.now y.now longest_frame)) c.in_ok-room.ensures.ok_part c.first_chunk_mut.ensures.cases) l.array_long l.ensures.laid).fits
 
 pub returns : goal.returns
 returns g c =
@@ -95,8 +97,8 @@ returns g c =
     let buf = c.args.buf.now in
     let buf' = c.fetch.new.buf in
     let out = c.args.out.now in
-    let n = c.in-Some-unwrap.n in
-    let chunk = c.in-Some.ensures.cases in
+    let n = c.in-Some.n in
+    let chunk : IsFirstChunk out c.in_ok-room.room.now longest_frame = subst (λ o. MatchOption o (length out < longest_frame) (λ y. IsFirstChunk out y.now longest_frame)) c.in_ok-room.ensures.ok_part c.first_chunk_mut.ensures.cases in
     let came : c.fetch.result ≡ Ok (Some n) = search rules in
     let rules' : FetchSome m between e.role buf buf' n = subst (λ r. FetchRules m between e.role buf buf' r) came c.fetch.ensures.rules in
     let s = take n buf' in
@@ -106,12 +108,12 @@ returns g c =
     let within = rules'.within in
     let long : length s ≡ n = simp length-take (omega arith) in
     let end = l.ensures.end ∙ ap (λ x. after_fetch e (fetch_way e x)) is in
-    let lays = subst (λ x. Lays (fetch_put e (fetch_way e x)) c.in-Some.room.now l.new.out l.result.1) is l.ensures.laid in
+    let lays = subst (λ x. Lays (fetch_put e (fetch_way e x)) c.in_ok-room.room.now l.new.out l.result.1) is l.ensures.laid in
     let place = l.ensures.place ∙ ap₂ (λ x k. delivers (fetch_way e x) k) is (ap length is ∙ long) in
     let kept = kept_fetch e way in
     let room : m.largest ≤ length buf = omega arith in
     let none : fetch_refusal e m.largest (length buf) (length out) ≡ None = fetch_judged e _ _ _ _ c.in_ok-takes_frames.ensures room chunk.enough c.in_ok-is_running.ensures in
-    let laid = laid_in p _ out c.in-Some.room.now l.new.out l.result.1 chunk l.array_long lays in
+    let laid = laid_in p _ out c.in_ok-room.room.now l.new.out l.result.1 chunk l.array_long lays in
     let put = λ (P : Role → Option (List ℕ) → Type 0) (h : P e'.role (front l.result.1 l.new.out)). subst (λ w. P w p) (ap (λ x. x.role) end ∙ kept.role) (subst (P e'.role) laid.front h) in
     let answering : Answer → Answer = λ a. record { refused = a.refused; status = a.status; delivered = l.result.0; put = l.result.1 } in
     let answer = ap answering c.idle-2.ensures ∙ ap₂ (λ x y. record { refused = None; status = status_of e'.state; delivered = x; put = y }) place lays.value in

@@ -1,4 +1,6 @@
-use Rattle.std.proofs.Common.{◌≡◌, List, ◌++◌, length, drop, Some, None, Err, Option, refl, sym, ap, ◌∙◌, subst, ap₂}
+use Rattle.std.proofs.Common.{◌≡◌, List, ◌++◌, length, drop, Some, None, Err, Option, refl, sym, ap, ◌∙◌, subst, ap₂, ◌<◌}
+use Rattle.std.specs.Array.{IsFirstChunk}
+use Rattle.std.specs.Option.{MatchOption}
 use Rattle.terms.specs.declared.role.Role.{Role}
 use Rattle.ends.specs.declared.answer.Answer.{Answer}
 use Rattle.ends.specs.Ends.{end_value}
@@ -19,21 +21,15 @@ returns-in_err-is_running g c =
     let out = c.args.out.now in
     let message = c.args.message.now in
     let x = c.in_err-is_running.field-0.0 in
-    let chunk = c.in-Some.ensures.cases in
+    let chunk : IsFirstChunk out c.in_ok-room.room.now longest_frame = subst (λ o. MatchOption o (length out < longest_frame) (λ y. IsFirstChunk out y.now longest_frame)) c.in_ok-room.ensures.ok_part c.first_chunk_mut.ensures.cases in
     let refused : tick_refusal e m.largest (length out) ≡ Some x = tick_judged e _ _ _ c.in_ok-takes_frames.ensures chunk.enough c.in_err-is_running.ensures in
     let is : c.from_residual-in_err-is_running.result ≡ Err x = failed _ x c.from_residual-in_err-is_running.ensures.1 in
     record {
       rules =
-          subst (λ o. Ticked o e e m m message out (c.in-Some.room.now ++ drop longest_frame out) (answer_of e c.from_residual-in_err-is_running.result)) (sym refused)
+          subst (λ o. Ticked o e e m m message out (c.in_ok-room.room.now ++ drop longest_frame out) (answer_of e c.from_residual-in_err-is_running.result)) (sym refused)
           record { answer = ap (answer_of e) is; end = refl; carrier = refl; output = kept_out _ _ _ chunk };
       exact = subst (λ o. TickStepped o g.C.Carrier.putting c.args.carrier.now c.args.carrier.now e message) (sym refused) refl;
     }
-
-pub put-requires : goal.put-requires
-put-requires g c =
-    let e = end_value c.args.self.now in
-    let l = c.go_on-laid in
-    (laid_in (tick_put e (tick_way e) (said e.values c.args.message.now)) _ c.args.out.now c.in-Some.room.now l.new.out l.result c.in-Some.ensures.cases l.array_long l.ensures.laid).fits
 
 pub returns : goal.returns
 returns g c =
@@ -44,11 +40,11 @@ returns g c =
     let m' = g.C.Carrier.meaning c.put.new.carrier in
     let out = c.args.out.now in
     let message = c.args.message.now in
-    let chunk = c.in-Some.ensures.cases in
+    let chunk : IsFirstChunk out c.in_ok-room.room.now longest_frame = subst (λ o. MatchOption o (length out < longest_frame) (λ y. IsFirstChunk out y.now longest_frame)) c.in_ok-room.ensures.ok_part c.first_chunk_mut.ensures.cases in
     let p = tick_put e (tick_way e) (said e.values message) in
     let kept = kept_tick e (tick_way e) in
     let none : tick_refusal e m.largest (length out) ≡ None = tick_judged e _ _ _ c.in_ok-takes_frames.ensures chunk.enough c.in_ok-is_running.ensures in
-    let laid = laid_in p _ out c.in-Some.room.now l.new.out l.result chunk l.array_long l.ensures.laid in
+    let laid = laid_in p _ out c.in_ok-room.room.now l.new.out l.result chunk l.array_long l.ensures.laid in
     let answer : Answer → Answer = λ a. record { refused = c.message_refusal.result; status = a.status; delivered = a.delivered; put = l.result } in
     let put = λ (P : Role → Option (List _) → Type 0) (h : P e'.role (front l.result l.new.out)). subst (λ w. P w p) (ap (λ x. x.role) l.ensures.end ∙ kept.role) (subst (P e'.role) laid.front h) in
     record {
