@@ -1,6 +1,6 @@
-use Rattle.std.proofs.Common.{◌≡◌, length, None, sym, ap, ◌∙◌, subst, ap₂, rules, ◌<◌}
+use Rattle.std.proofs.Common.{◌≡◌, length, None, sym, ap, ◌∙◌, subst, ap₂, rules}
+use Rattle.std.proofs.lemmas.Option.{MatchOption-at_some}
 use Rattle.std.specs.Array.{IsFirstChunk}
-use Rattle.std.specs.Option.{MatchOption}
 use Rattle.ends.specs.declared.answer.Answer.{Answer}
 use Rattle.ends.specs.Calls.{Puts, opening_refusal, opening_put}
 use Rattle.ends.specs.Puts.{longest_frame, put_length, put_into}
@@ -11,7 +11,7 @@ use Rattle.ends.proofs.opening.try_open.Goals as goal
 pub put-requires : goal.put-requires
 put-requires g c =
     let l = c.lay_first-laid in
-    (laid_in (opening_put c.first-end.result.state) _ c.args.out.now c.in_ok-room.room.now l.new.out l.result (subst (λ o. MatchOption o (length c.args.out.now < longest_frame) (λ y. IsFirstChunk c.args.out.now y.now longest_frame)) c.in_ok-room.ensures.ok_part c.first_chunk_mut.ensures.cases) l.array_long l.ensures).fits
+    (laid_in (opening_put c.first-end.result.state) _ c.args.out.now c.in_ok-room.room.now l.new.out l.result (MatchOption-at_some _ (λ y. IsFirstChunk c.args.out.now y.now longest_frame) c.in_ok-room.room c.in_ok-room.ensures.ok_part c.first_chunk_mut.ensures.cases) l.array_long l.ensures).fits
 
 pub returns : goal.returns
 returns g c =
@@ -22,7 +22,7 @@ returns g c =
     let m = g.C.Carrier.meaning c.args.carrier.now in
     let m' = g.C.Carrier.meaning c.put.new.carrier in
     let out = c.args.out.now in
-    let chunk : IsFirstChunk out c.in_ok-room.room.now longest_frame = subst (λ o. MatchOption o (length out < longest_frame) (λ y. IsFirstChunk out y.now longest_frame)) c.in_ok-room.ensures.ok_part c.first_chunk_mut.ensures.cases in
+    let chunk : IsFirstChunk out c.in_ok-room.room.now longest_frame = MatchOption-at_some _ (λ y. IsFirstChunk out y.now longest_frame) c.in_ok-room.room c.in_ok-room.ensures.ok_part c.first_chunk_mut.ensures.cases in
     let none : opening_refusal m.largest (length out) ≡ None = opening_judged _ _ c.in_ok-takes_frames.ensures chunk.enough in
     let state : end.state ≡ first = search rules in
     let party : end.role ≡ role = search rules in

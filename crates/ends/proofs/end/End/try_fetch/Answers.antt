@@ -1,6 +1,6 @@
-use Rattle.std.proofs.Common.{◌≡◌, ℕ, ◌-◌, ◌≤◌, List, ◌++◌, length, take, drop, Some, None, Ok, Err, Option, refl, sym, ap, ◌∙◌, subst, ap₂, arith, length-take, rules, ◌<◌}
+use Rattle.std.proofs.Common.{◌≡◌, ℕ, ◌-◌, ◌≤◌, List, ◌++◌, length, take, drop, Some, None, Ok, Err, Option, refl, sym, ap, ◌∙◌, subst, ap₂, arith, length-take, rules}
+use Rattle.std.proofs.lemmas.Option.{MatchOption-at_some}
 use Rattle.std.specs.Array.{IsFirstChunk}
-use Rattle.std.specs.Option.{MatchOption}
 use native.Mathlib.Nat.{sub-zero}
 use Rattle.terms.specs.declared.role.Role.{Role}
 use Rattle.terms.specs.Numbers.{Bytes}
@@ -24,7 +24,7 @@ returns-in_err-is_running g c =
     let buf = c.args.buf.now in
     let out = c.args.out.now in
     let x = c.in_err-is_running.field-0.0 in
-    let chunk : IsFirstChunk out c.in_ok-room.room.now longest_frame = subst (λ o. MatchOption o (length out < longest_frame) (λ y. IsFirstChunk out y.now longest_frame)) c.in_ok-room.ensures.ok_part c.first_chunk_mut.ensures.cases in
+    let chunk : IsFirstChunk out c.in_ok-room.room.now longest_frame = MatchOption-at_some _ (λ y. IsFirstChunk out y.now longest_frame) c.in_ok-room.room c.in_ok-room.ensures.ok_part c.first_chunk_mut.ensures.cases in
     let long : m.largest ≤ length buf = omega arith in
     let refused : fetch_refusal e m.largest (length buf) (length out) ≡ Some x = fetch_judged e _ _ _ _ c.in_ok-takes_frames.ensures long chunk.enough c.in_err-is_running.ensures in
     let is : c.from_residual-in_err-is_running.result ≡ Err x = failed _ x c.from_residual-in_err-is_running.ensures.1 in
@@ -49,7 +49,7 @@ returns-in_default g c =
     let buf = c.args.buf.now in
     let buf' = c.fetch.new.buf in
     let out = c.args.out.now in
-    let chunk : IsFirstChunk out c.in_ok-room.room.now longest_frame = subst (λ o. MatchOption o (length out < longest_frame) (λ y. IsFirstChunk out y.now longest_frame)) c.in_ok-room.ensures.ok_part c.first_chunk_mut.ensures.cases in
+    let chunk : IsFirstChunk out c.in_ok-room.room.now longest_frame = MatchOption-at_some _ (λ y. IsFirstChunk out y.now longest_frame) c.in_ok-room.room c.in_ok-room.ensures.ok_part c.first_chunk_mut.ensures.cases in
     let long : m.largest ≤ length buf = omega arith in
     let none : fetch_refusal e m.largest (length buf) (length out) ≡ None = fetch_judged e _ _ _ _ c.in_ok-takes_frames.ensures long chunk.enough c.in_ok-is_running.ensures in
     let is : c.fetch.result ≡ Ok None = search rules in
@@ -84,7 +84,7 @@ pub put-requires : goal.put-requires
 put-requires g c =
     let e = end_value c.args.self.now in
     let l = c.take-delivered in
-    (laid_in (fetch_put e (fetch_way e (take (c.in-Some.n - 0) c.fetch.new.buf))) _ c.args.out.now c.in_ok-room.room.now l.new.out l.result.1 (subst (λ o. MatchOption o (length c.args.out.now < longest_frame) (λ y. IsFirstChunk c.args.out.now y.now longest_frame)) c.in_ok-room.ensures.ok_part c.first_chunk_mut.ensures.cases) l.array_long l.ensures.laid).fits
+    (laid_in (fetch_put e (fetch_way e (take (c.in-Some.n - 0) c.fetch.new.buf))) _ c.args.out.now c.in_ok-room.room.now l.new.out l.result.1 (MatchOption-at_some _ (λ y. IsFirstChunk c.args.out.now y.now longest_frame) c.in_ok-room.room c.in_ok-room.ensures.ok_part c.first_chunk_mut.ensures.cases) l.array_long l.ensures.laid).fits
 
 pub returns : goal.returns
 returns g c =
@@ -98,7 +98,7 @@ returns g c =
     let buf' = c.fetch.new.buf in
     let out = c.args.out.now in
     let n = c.in-Some.n in
-    let chunk : IsFirstChunk out c.in_ok-room.room.now longest_frame = subst (λ o. MatchOption o (length out < longest_frame) (λ y. IsFirstChunk out y.now longest_frame)) c.in_ok-room.ensures.ok_part c.first_chunk_mut.ensures.cases in
+    let chunk : IsFirstChunk out c.in_ok-room.room.now longest_frame = MatchOption-at_some _ (λ y. IsFirstChunk out y.now longest_frame) c.in_ok-room.room c.in_ok-room.ensures.ok_part c.first_chunk_mut.ensures.cases in
     let came : c.fetch.result ≡ Ok (Some n) = search rules in
     let rules' : FetchSome m between e.role buf buf' n = subst (λ r. FetchRules m between e.role buf buf' r) came c.fetch.ensures.rules in
     let s = take n buf' in

@@ -1,6 +1,6 @@
-use Rattle.std.proofs.Common.{◌≡◌, List, ◌++◌, length, drop, Some, None, Err, Option, refl, sym, ap, ◌∙◌, subst, ap₂, ◌<◌}
+use Rattle.std.proofs.Common.{◌≡◌, List, ◌++◌, length, drop, Some, None, Err, Option, refl, sym, ap, ◌∙◌, subst, ap₂}
+use Rattle.std.proofs.lemmas.Option.{MatchOption-at_some}
 use Rattle.std.specs.Array.{IsFirstChunk}
-use Rattle.std.specs.Option.{MatchOption}
 use Rattle.terms.specs.declared.role.Role.{Role}
 use Rattle.ends.specs.declared.answer.Answer.{Answer}
 use Rattle.ends.specs.Ends.{end_value}
@@ -21,7 +21,7 @@ returns-in_err-is_running g c =
     let out = c.args.out.now in
     let message = c.args.message.now in
     let x = c.in_err-is_running.field-0.0 in
-    let chunk : IsFirstChunk out c.in_ok-room.room.now longest_frame = subst (λ o. MatchOption o (length out < longest_frame) (λ y. IsFirstChunk out y.now longest_frame)) c.in_ok-room.ensures.ok_part c.first_chunk_mut.ensures.cases in
+    let chunk : IsFirstChunk out c.in_ok-room.room.now longest_frame = MatchOption-at_some _ (λ y. IsFirstChunk out y.now longest_frame) c.in_ok-room.room c.in_ok-room.ensures.ok_part c.first_chunk_mut.ensures.cases in
     let refused : tick_refusal e m.largest (length out) ≡ Some x = tick_judged e _ _ _ c.in_ok-takes_frames.ensures chunk.enough c.in_err-is_running.ensures in
     let is : c.from_residual-in_err-is_running.result ≡ Err x = failed _ x c.from_residual-in_err-is_running.ensures.1 in
     record {
@@ -40,7 +40,7 @@ returns g c =
     let m' = g.C.Carrier.meaning c.put.new.carrier in
     let out = c.args.out.now in
     let message = c.args.message.now in
-    let chunk : IsFirstChunk out c.in_ok-room.room.now longest_frame = subst (λ o. MatchOption o (length out < longest_frame) (λ y. IsFirstChunk out y.now longest_frame)) c.in_ok-room.ensures.ok_part c.first_chunk_mut.ensures.cases in
+    let chunk : IsFirstChunk out c.in_ok-room.room.now longest_frame = MatchOption-at_some _ (λ y. IsFirstChunk out y.now longest_frame) c.in_ok-room.room c.in_ok-room.ensures.ok_part c.first_chunk_mut.ensures.cases in
     let p = tick_put e (tick_way e) (said e.values message) in
     let kept = kept_tick e (tick_way e) in
     let none : tick_refusal e m.largest (length out) ≡ None = tick_judged e _ _ _ c.in_ok-takes_frames.ensures chunk.enough c.in_ok-is_running.ensures in
