@@ -41,6 +41,10 @@ read_number r s = cond (is_number s) (ranged r (value_of 0 s)) (Err WrongForm)
 abbrev pub read_digit : ℕ → Result ℕ Fault
 read_digit b = cond (nat_le 48 b && nat_le b 57) (Ok (b - 48)) (cond (nat_le 65 b && nat_le b 70) (Ok (b - 65 + 10)) (Err WrongForm))
 
+-- two digits are a byte, the first the higher
+abbrev pub read_byte : ℕ → ℕ → Result ℕ Fault
+read_byte high low = then (read_digit high) (λ h. then (read_digit low) (λ l. Ok (h * 16 + l)))
+
 -- hexadecimal digits behind v
 abbrev pub hex_on : ℕ → List ℕ → Result ℕ Fault
 hex_on v [] = Ok v

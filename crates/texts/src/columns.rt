@@ -24,7 +24,7 @@ pub fn text_in(line: &[u8], place: u8) -> &[u8]
     value(line, usize::from(place.saturating_sub(1)))
 }
 
-// What `read` makes of the text in a column.
+// What `read` makes of the text in a column. Private: to call a closure it needs a `requires`, and no public function has one.
 fn read_in<T, F: FnOnce(&[u8]) -> Result<T, Fault>>(
     line: &[u8],
     place: u8,

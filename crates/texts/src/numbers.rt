@@ -1,6 +1,6 @@
 // The values of a line: numbers in base ten within a range, numbers below zero, eight hexadecimal digits.
 ghost use Rattle.std.specs.Prelude.{◌≡◌, ◌<◌, ◌-◌, ◌^◌, min, IfOk};
-ghost use Rattle.texts.specs.Numbers.{digits, proper, is_number, within, value_of, read_number, read_digit, read_hex, read_below, Within};
+ghost use Rattle.texts.specs.Numbers.{digits, proper, is_number, within, value_of, read_number, read_digit, read_byte, read_hex, read_below, Within};
 
 use super::fault::Fault;
 
@@ -16,7 +16,7 @@ impl Range {
     pub fn contains(self, n: u64) -> bool
         ensures { result ≡ within self n }
     {
-        u64::from(self.low) <= n && n <= u64::from(self.high)
+        (u64::from(self.low)..=u64::from(self.high)).contains(&n)
     }
 }
 
@@ -70,31 +70,39 @@ pub(crate) fn number(s: &[u8], range: Range) -> Result<u32, Fault>
     Ok(n as u32)
 }
 
-fn hex_digit(b: u8) -> Result<u32, Fault>
+fn hex_digit(b: u8) -> Result<u8, Fault>
     ensures value { result ≡ read_digit b }
     ensures small { IfOk result (λ d. d < 16) }
 {
     match b {
-        b'0'..=b'9' => Ok(u32::from(b - b'0')),
-        b'A'..=b'F' => Ok(u32::from(b - b'A') + 10),
+        b'0'..=b'9' => Ok(b - b'0'),
+        b'A'..=b'F' => Ok(b - b'A' + 10),
         _ => Err(Fault::WrongForm),
     }
 }
 
+// Two digits are a byte, the first the higher.
+fn hex_byte(high: u8, low: u8) -> Result<u8, Fault>
+    ensures { result ≡ read_byte high low }
+{
+    let h = hex_digit(high)?;
+    let l = hex_digit(low)?;
+    Ok(h * 16 + l)
+}
+
 // Eight capital hexadecimal digits.
+#[tactic(auto, using(crate::proofs::Digits::by_bytes))]
 pub(crate) fn hex(s: &[u8]) -> Result<u32, Fault>
     ensures { result ≡ read_hex s.now }
 {
-    if s.len() != 8 {
+    let [a, b, c, d, e, f, g, h] = s else {
         return Err(Fault::WrongForm);
-    }
-    // not a fold: that the sum of eight digits fits is known only from one step to the next
-    let mut n = 0u32;
-    for b in s {
-        let d = hex_digit(*b)?;
-        n = n * 16 + d;
-    }
-    Ok(n)
+    };
+    let w = hex_byte(*a, *b)?;
+    let x = hex_byte(*c, *d)?;
+    let y = hex_byte(*e, *f)?;
+    let z = hex_byte(*g, *h)?;
+    Ok(u32::from_be_bytes([w, x, y, z]))
 }
 
 // A number below zero: a minus, and how far below, within its range. A number without minus is out of range.
