@@ -28,8 +28,8 @@ fn keeps_below(z: i64, column: Column) -> Result<(), LineFault>
     ensures answer { result ≡ kept_below column z }
     ensures inside { OnOk result (KeepsBelow column z) }
 {
-    // not `contains` of a range: the check does not find that its order of `i64` is these two tests
-    if z < -i64::from(column.range.high) || -i64::from(column.range.low) < z {
+    let range = -i64::from(column.range.high)..=-i64::from(column.range.low);
+    if !range.contains(&z) {
         return Err(Fault::OutOfRange.at(column.place));
     }
     Ok(())

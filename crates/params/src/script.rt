@@ -14,7 +14,7 @@ use texts::columns::text_in;
 use texts::cutting::count;
 use texts::fault::{Fault, File, FileFault, LineFault};
 use texts::heading::{ended, names};
-use texts::words::{is, is_word};
+use texts::words::is_word;
 
 const NAMES: &str = "end do text";
 
@@ -54,23 +54,21 @@ fn read_deed(s: &[u8]) -> Result<Action<()>, Fault>
 fn read_message(s: &[u8]) -> Result<&[u8], Fault>
     ensures { giving borrowed result ≡ read_message s.now }
 {
-    if is(s, "-") {
-        return Ok(&[]);
+    match s {
+        b"-" => Ok(&[]),
+        _ if is_word(s, LONGEST) => Ok(s),
+        _ => Err(Fault::WrongForm),
     }
-    if is_word(s, LONGEST) {
-        return Ok(s);
-    }
-    Err(Fault::WrongForm)
 }
 
 // The deed with its message: a tick has one, and the others have `-` in its place.
 fn read_text(deed: Action<()>, s: &[u8]) -> Result<Action<&[u8]>, Fault>
     ensures { giving (carrying borrowed) result ≡ read_text deed s.now }
 {
-    match deed {
-        Action::Tick(()) => read_message(s).map(Action::Tick),
-        Action::Fetch if is(s, "-") => Ok(Action::Fetch),
-        Action::Stop if is(s, "-") => Ok(Action::Stop),
+    match (deed, s) {
+        (Action::Tick(()), _) => read_message(s).map(Action::Tick),
+        (Action::Fetch, b"-") => Ok(Action::Fetch),
+        (Action::Stop, b"-") => Ok(Action::Stop),
         _ => Err(Fault::WrongForm),
     }
 }
@@ -82,6 +80,7 @@ fn read_values(line: &[u8]) -> Result<Call<&[u8]>, LineFault>
     if count(line, b' ') != COLUMNS - 1 {
         return Err(Fault::WrongCount.whole_line());
     }
+    // not one function that takes the reader: it would be public and need a `requires` of its closure
     let end = read_role(text_in(line, 1)).map_err(|fault| fault.at(1))?;
     let deed = read_deed(text_in(line, 2)).map_err(|fault| fault.at(2))?;
     let action = read_text(deed, text_in(line, 3)).map_err(|fault| fault.at(3))?;

@@ -13,6 +13,8 @@ use terms::counters::{ExecutionCycle, Ticks};
 use terms::role::Role;
 use texts::writing::Hex;
 
+// A line is shown in three parts. One text of its fifteen values proves too, but a wrong one is then refused in the written proof alone.
+
 // Who speaks to whom: columns 2 to 5 of a line.
 #[derive(Clone, Copy)]
 pub(crate) struct Identifiers(pub(crate) Values);

@@ -1,10 +1,13 @@
-use Rattle.std.proofs.Common.{arith}
-use Rattle.std.proofs.lemmas.Int.{ints}
-use Rattle.std.proofs.lemmas.Bool.Decides.{nat_tests}
+use Rattle.std.proofs.Common.{◌≡◌, true, false, rules, arith}
+use Rattle.params.specs.Columns.{keeps_below}
 use Rattle.params.proofs.made.keeps_below.Goals as goal
 
-pub returns : goal.returns
-returns c = record { answer = grind (arith, nat_tests, ints); inside = (omega (arith, ints), omega (arith, ints)) }
+pub returns-then-not-contains-clause-answer : goal.returns-then-not-contains-clause-answer
+returns-then-not-contains-clause-answer c =
+    let e : keeps_below c.args.column c.args.z ≡ false = search rules in
+    grind (arith, e)
 
-pub returns-then-z-from-clause-answer : goal.returns-then-z-from-clause-answer
-returns-then-z-from-clause-answer c = grind (arith, nat_tests, ints)
+pub returns-clause-answer : goal.returns-clause-answer
+returns-clause-answer c =
+    let e : keeps_below c.args.column c.args.z ≡ true = search rules in
+    grind (arith, e)
