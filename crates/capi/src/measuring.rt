@@ -91,7 +91,11 @@ impl Desk {
     fn fetch(&mut self, end: &mut End) -> u64
         ensures { result ≤ 1 }
     {
-        let answer = end.fetch(&mut self.wire, &mut self.buffers.fetched, &mut self.buffers.out);
+        let answer = end.fetch(
+            &mut self.wire,
+            &mut self.buffers.fetched,
+            &mut self.buffers.out,
+        );
         u64::from(answer.delivered.is_some())
     }
 
@@ -105,7 +109,10 @@ impl Desk {
     // Puts one string and fetches one; says whether one came.
     fn turn(&mut self, string: &[u8]) -> bool {
         let _ = self.wire.put(Role::Initiator, string);
-        matches!(self.wire.fetch(Role::Responder, &mut self.buffers.fetched), Ok(Some(_)))
+        matches!(
+            self.wire.fetch(Role::Responder, &mut self.buffers.fetched),
+            Ok(Some(_))
+        )
     }
 }
 
