@@ -4,10 +4,10 @@ use captures::check::Walk;
 use captures::hex::decode;
 use captures::line::{Line, LineFault};
 use captures::parties::Parties;
-use inspector::session::Session;
+use inspector::session::{Session, Verdict};
 use inspector::show::Answer;
 use inspector::tally::{Outcome, Seen};
-use std::io;
+use std::{fmt, io};
 use terms::failure::Failure;
 
 // What is known of the session, and the number of the line that was read last.
@@ -75,29 +75,33 @@ impl<'a> Report<'a> {
         }
     }
 
-    fn frame_line(&mut self, bytes: &[u8]) -> io::Result<Outcome> {
+    // The line of a frame or a packet, with what writing it again gives where it was read.
+    fn answer_line<T: fmt::Display + Drop>(
+        &self,
+        kind: &str,
+        answer: Answer<T>,
+        again: Option<Verdict>,
+    ) -> io::Result<()> {
         let number = self.number;
-        let finding = self.session.frame(bytes);
-        let answer = Answer(finding);
-        if finding.is_ok() {
-            let again = frame_again(bytes);
-            println!(self.rt; "{number} frame {answer} again={again}")?;
-        } else {
-            println!(self.rt; "{number} frame {answer}")?;
+        match again {
+            Some(again) => println!(self.rt; "{number} {kind} {answer} again={again}"),
+            None => println!(self.rt; "{number} {kind} {answer}"),
         }
+    }
+
+    fn frame_line(&mut self, bytes: &[u8]) -> io::Result<Outcome> {
+        let finding = self.session.frame(bytes);
+        let again = finding.ok().map(|_| frame_again(bytes));
+        self.answer_line("frame", Answer(finding), again)?;
         Ok(Outcome::Frame(Seen::from(finding)))
     }
 
     fn packet_line(&mut self, bytes: &[u8]) -> io::Result<Outcome> {
-        let number = self.number;
         let packet = self.session.packet(bytes);
-        let answer = Answer(packet);
-        if let Ok(unwrapped) = packet {
-            let again = packet_again(bytes, unwrapped.envelope.n_r);
-            println!(self.rt; "{number} packet {answer} again={again}")?;
-        } else {
-            println!(self.rt; "{number} packet {answer}")?;
-        }
+        let again = packet
+            .ok()
+            .map(|unwrapped| packet_again(bytes, unwrapped.envelope.n_r));
+        self.answer_line("packet", Answer(packet), again)?;
         let finding = packet.and_then(|unwrapped| unwrapped.frame);
         Ok(Outcome::Packet(Seen::from(finding)))
     }
