@@ -204,10 +204,7 @@ pub extern "C" fn falldate_steady_rounds(heap: Global, rounds: u32, size: u32) -
 {
     let message = [0x55u8; LONGEST_MESSAGE];
     let size = (size as usize).min(LONGEST_MESSAGE);
-    match serve(heap, &message[..size], rounds) {
-        Ok(delivered) => delivered as i64,
-        Err(_) => NO_MEMORY,
-    }
+    serve(heap, &message[..size], rounds).map_or(NO_MEMORY, |delivered| delivered as i64)
 }
 
 // How many of so many turns fetched a string, where so many strings are held before.

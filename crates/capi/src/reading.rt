@@ -43,10 +43,7 @@ fn kind(frame: Frame<'_>) -> i32
 pub extern "C" fn falldate_frame_kind(bytes: &[u8]) -> i32
     ensures { result ≡ frame_answer (read_frame bytes.now) }
 {
-    match Frame::read(bytes) {
-        Ok(frame) => kind(frame),
-        Err(refusal) => refused(refusal),
-    }
+    Frame::read(bytes).map_or_else(refused, kind)
 }
 
 #[unsafe(no_mangle)]

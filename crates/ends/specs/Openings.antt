@@ -2,15 +2,11 @@
 use Rattle.std.specs.Prelude.{◌≡◌, ℕ, List, length, Some, None, Ok, Err, Result}
 use Rattle.terms.specs.declared.refusal.Refusal.{Refusal}
 use Rattle.terms.specs.declared.role.Role.{Role}
-use Rattle.terms.specs.declared.role.Role.TheVariants.{Initiator, Responder}
 use Rattle.carrier.specs.Rules.{Meaning}
 use Rattle.params.specs.declared.values.Values.{Values}
 use Rattle.ends.specs.declared.opening.Opened.{Opened}
 use Rattle.ends.specs.declared.opening.NotOpened.{NotOpened}
-use Rattle.ends.specs.declared.opening.InitiatorNumbers.{InitiatorNumbers}
-use Rattle.ends.specs.declared.opening.ResponderNumbers.{ResponderNumbers}
 use Rattle.states.specs.declared.state.State.{State}
-use Rattle.states.specs.declared.state.State.TheVariants as state
 use Rattle.ends.specs.Ends.{end_value}
 use Rattle.ends.specs.Calls.{Opens, opening_refusal}
 
@@ -33,9 +29,3 @@ OpensAs v numbers role first m m' out out' (Err x) = OpenRefused numbers m m' ou
 abbrev pub handed_back : {N : Type 0} → N → Result Opened Refusal → Result Opened (NotOpened N)
 handed_back numbers (Ok o) = Ok o
 handed_back numbers (Err x) = Err record { refusal = x; numbers = numbers }
-
-abbrev pub OpensInitiator : Values → InitiatorNumbers → Meaning → Meaning → List ℕ → List ℕ → Result Opened (NotOpened InitiatorNumbers) → Type 0
-OpensInitiator v numbers = OpensAs v numbers Initiator (state.WaitAu2 numbers.rb.value numbers.rc.value)
-
-abbrev pub OpensResponder : Values → ResponderNumbers → Meaning → Meaning → List ℕ → List ℕ → Result Opened (NotOpened ResponderNumbers) → Type 0
-OpensResponder v numbers = OpensAs v numbers Responder (state.Listen numbers.ra.value)

@@ -43,7 +43,7 @@ pub(crate) fn put<C: Carrier>(carrier: &mut C, from: Role, laid: Option<usize>, 
     }
 }
 
-// Where the message of a data frame of `n` bytes stands, if one was accepted and has any.
+// Where the message of a data frame of `n` bytes stands, if one was accepted and has any: 10 bytes are before it, 8 behind.
 fn place(way: FetchWay, n: usize) -> Option<Place>
     ensures { result ≡ delivers way n }
 {

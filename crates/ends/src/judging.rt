@@ -291,9 +291,9 @@ impl End {
             return FetchWay::Drops;
         }
         let longest = usize::from(self.params.values().longest);
-        match judge(self.role, longest, s) {
-            Ok(frame) => self.by_frame(s, frame),
-            Err(reason) => FetchWay::Releases(reason),
-        }
+        judge(self.role, longest, s).map_or_else(
+            FetchWay::Releases,
+            |frame| self.by_frame(s, frame),
+        )
     }
 }
