@@ -12,7 +12,7 @@ use super::answer::Answer;
 use super::calls::{put, takes_frames};
 use super::end::End;
 use super::frames::{FrameBuffer, lay_frame};
-use super::sealed::Sealed;
+use super::sealed::{Opening, Sealed};
 use super::session::{SessionNumber, SessionNumbers, StopToken};
 use carrier::Carrier;
 use codec::frame::Frame;
@@ -63,7 +63,7 @@ impl SessionNumbers for InitiatorNumbers {
         Role::Initiator
     }
 
-    fn first_state(&self) -> State {
+    fn first_state(&self, _opening: Opening) -> State {
         State::WaitAu2 {
             rb: self.rb.value,
             rc: self.rc.value,
@@ -80,7 +80,7 @@ impl SessionNumbers for ResponderNumbers {
         Role::Responder
     }
 
-    fn first_state(&self) -> State {
+    fn first_state(&self, _opening: Opening) -> State {
         State::Listen { ra: self.ra.value }
     }
 }
@@ -123,7 +123,8 @@ fn try_open<C: Carrier, N: SessionNumbers>(
     let room = out
         .first_chunk_mut::<LONGEST_FRAME>()
         .ok_or(Refusal::BufferTooShort)?;
-    let end = first(params, N::role(), numbers.first_state());
+    let state = numbers.first_state(Opening { begins: () });
+    let end = first(params, N::role(), state);
     let laid = lay_first(end.state, room);
     put(carrier, end.role, laid, room);
     let answer = Answer {

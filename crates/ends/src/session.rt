@@ -3,7 +3,7 @@ ghost use Rattle.std.specs.Prelude.{◌≡◌};
 ghost use Rattle.terms.specs.declared.role.Role.{Role};
 ghost use Rattle.states.specs.declared.state.State.{State};
 
-use super::sealed::Sealed;
+use super::sealed::{Opening, Sealed};
 use states::state::State;
 use terms::role::Role;
 
@@ -32,7 +32,8 @@ pub trait SessionNumbers: Sealed + Drop {
     fn role() -> Role
         ensures { result ≡ role };
 
-    fn first_state(&self) -> State
+    // To an opening alone: whoever else has the numbers cannot read them.
+    fn first_state(&self, opening: Opening) -> State
         ensures { result ≡ first self.now };
 }
 
