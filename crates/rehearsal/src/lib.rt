@@ -2,5 +2,6 @@
 #![tactic(auto)]
 
 mod columns;
+pub mod faults;
 mod listing;
 pub mod rehearsing;

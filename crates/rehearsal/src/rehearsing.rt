@@ -2,6 +2,7 @@
 ghost use Rattle.std.specs.Prelude.{◌≡◌, IfOk, string_bytes};
 ghost use Rattle.rehearsal.specs.Rehearsals.{Performed, Prints, Rehearses};
 
+use crate::faults::FaultLine;
 use crate::listing::listing;
 use carrier::fifo::FifoWire;
 use ends::session::SessionNumber;
@@ -52,7 +53,7 @@ pub fn printed(heap: Global, sheet: &[u8], script: &[u8]) -> Result<String, Rehe
     ensures { IfOk result (λ t. Prints sheet.now script.now (string_bytes t)) }
 {
     match rehearse(heap, sheet, script) {
-        Err(RehearsalError::Cause(fault)) => Ok(format!(in heap; "{fault}\n")?),
+        Err(RehearsalError::Cause(fault)) => Ok(format!(in heap; "{}", FaultLine(fault))?),
         done => done,
     }
 }

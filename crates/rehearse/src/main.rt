@@ -3,6 +3,7 @@
 #![tactic(auto)]
 
 use anyhow::anyhow;
+use rehearsal::faults::FaultLine;
 use rehearsal::rehearsing::{RehearsalError, rehearse};
 use std::fs;
 use std::process::ExitCode;
@@ -22,7 +23,7 @@ fn main(rt: HostRuntime) -> anyhow::Result<ExitCode> {
             Ok(ExitCode::SUCCESS)
         }
         Err(RehearsalError::Cause(fault)) => {
-            println!(rt; "{fault}")?;
+            rt.print(FaultLine(fault))?;
             Ok(ExitCode::FAILURE)
         }
         Err(RehearsalError::NoMemory) => Err(anyhow!("no memory")),
