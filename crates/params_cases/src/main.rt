@@ -11,7 +11,7 @@ use std::alloc::Global;
 use std::io::Read;
 use terms::failure::Failure;
 use terms::role::Role;
-use texts::cutting::count;
+use texts::cutting::{count, cut};
 use texts::fault::FileFault;
 
 const END: u8 = b'|';
@@ -92,9 +92,11 @@ fn input(heap: Global, rt: &HostRuntime) -> anyhow::Result<Vec<u8>> {
 
 fn run(rt: &HostRuntime) -> anyhow::Result<()> {
     let text = input(rt.alloc(), rt)?;
-    let cases = count(&text, END);
-    for (n, case) in text.split(|byte| *byte == END).take(cases).enumerate() {
+    let mut rest = text.as_slice();
+    for n in 0..count(rest, END) {
+        let (case, more) = cut(rest, END);
         run_case(rt, n, case.strip_prefix(b"\n").unwrap_or(case))?;
+        rest = more;
     }
     Ok(())
 }
