@@ -1,9 +1,9 @@
 -- Laws of cutting a text, as the library's calls find the places.
-use Rattle.std.proofs.Common.{◌≡◌, ℕ, zero, suc, ◌+◌, ◌-◌, ◌≤◌, Bool, true, false, not, cond, eqb, nat_lt, List, [], ◌∷◌, length, get_or, take, drop, Some, None, Option, sym, refl, ap, ◌∙◌, zero-add, arith}
+use Rattle.std.proofs.Common.{◌≡◌, ℕ, zero, suc, ◌+◌, ◌-◌, ◌%◌, ◌^◌, ◌≤◌, ◌<◌, Bool, true, false, not, cond, eqb, nat_lt, List, [], ◌∷◌, length, get_or, take, drop, Some, None, Option, sym, refl, ap, ◌∙◌, add-zero, zero-add, add_assoc, arith}
 use Rattle.std.proofs.lemmas.List.{drop_all, take_all, take_rest}
 use Rattle.std.proofs.lemmas.List.Recursion.{is_count_by}
 use Rattle.std.proofs.lemmas.Bool.Decides.{nat_tests}
-use Rattle.std.specs.List.{position_or_len, position, count_by, slice_get, slice_split, onto_first}
+use Rattle.std.specs.List.{position_or_len, position, count_by, fold, slice_get, slice_split, onto_first}
 use Rattle.std.specs.Option.{option_map, unwrap_or}
 use denote.Ref.{Bor}
 use Rattle.texts.specs.Pieces.{before, after, count_of, value_at}
@@ -68,6 +68,30 @@ module _ (c : ℕ) where
 
   pub count_law : (s : List ℕ) → count_of c s ≡ count_by (λ b. eqb b c) s
   count_law = is_count_by (count_of c) (λ b. eqb b c) refl (λ b s. counted (eqb b c) (count_of c s))
+
+  -- one more for a c, in 64 bits
+  abbrev pub tallied : ℕ → ℕ → ℕ
+  tallied n b = (n + cond (eqb b c) 1 0) % 2 ^ 64
+
+  count_short : (s : List ℕ) → count_of c s ≤ length s
+  count_short [] = omega arith
+  count_short (b ∷ s) =
+      elim (eqb b c) as (λ t. cond t 1 0 + count_of c s ≤ suc (length s))
+      [ true ↦ (let h = count_short s in omega (arith, h)) | false ↦ (let h = count_short s in omega (arith, h)) ]
+
+  one_tallied : (t : Bool) (n k : ℕ) → n + (cond t 1 0 + k) < 2 ^ 64 → (n + cond t 1 0) % 2 ^ 64 ≡ n + cond t 1 0
+  one_tallied true n k h = omega (arith, h)
+  one_tallied false n k h = omega (arith, h)
+
+  tally_on : (s : List ℕ) (n : ℕ) → n + count_of c s < 2 ^ 64 → fold tallied n s ≡ n + count_of c s
+  tally_on [] n h = sym (add-zero n)
+  tally_on (b ∷ s) n h =
+      let e = one_tallied (eqb b c) n (count_of c s) h in
+      ap (λ k. fold tallied k s) e ∙ tally_on s (n + cond (eqb b c) 1 0) (omega (arith, h)) ∙ add_assoc n (cond (eqb b c) 1 0) (count_of c s)
+
+  -- no sum of a text wraps
+  pub tally_law : (s : List ℕ) → length s < 2 ^ 64 → fold tallied 0 s ≡ count_of c s
+  tally_law s h = let k = count_short s in tally_on s 0 (omega (arith, h, k)) ∙ zero-add (count_of c s)
 
 -- the pieces of a line, as the library splits it, are its values
 first_onto : (b : ℕ) (ps : List (List ℕ)) → get_or (onto_first b ps) 0 [] ≡ b ∷ get_or ps 0 []
