@@ -6,7 +6,7 @@ use std::fmt;
 use terms::role::Role;
 
 // What an end is told to do; a tick carries a message.
-#[derive(Drop)]
+#[derive(Clone, Copy, Drop)]
 pub enum Action<M> {
     Tick(M),
     Fetch,
