@@ -93,6 +93,9 @@ module _ (c : ℕ) where
   pub tally_law : (s : List ℕ) → length s < 2 ^ 64 → fold tallied 0 s ≡ count_of c s
   tally_law s h = let k = count_short s in tally_on s 0 (omega (arith, h, k)) ∙ zero-add (count_of c s)
 
+  pub tally_is : (s : List ℕ) (r : ℕ) → length s < 2 ^ 64 → r ≡ fold tallied 0 s → r ≡ count_of c s
+  tally_is s r h e = e ∙ tally_law s h
+
 -- the pieces of a line, as the library splits it, are its values
 first_onto : (b : ℕ) (ps : List (List ℕ)) → get_or (onto_first b ps) 0 [] ≡ b ∷ get_or ps 0 []
 first_onto b [] = refl

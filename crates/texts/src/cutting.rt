@@ -28,6 +28,7 @@ pub fn cut(s: &[u8], c: u8) -> (&[u8], &[u8])
 }
 
 // How often `c` stands in `s`. A sum and no `filter`, which would ask at each byte whether to count it: that takes up to nine times as long.
+#[tactic(auto, using(crate::proofs::Cuts::tally_is))]
 pub fn count(s: &[u8], c: u8) -> usize
     ensures { result ≡ count_of c s.now }
 {
